@@ -1,0 +1,101 @@
+-- An answer is known by its figures: no two answers have the same.
+use Prim.Native.Nat.{ℕ, zero, suc}
+use mathlib.Core.Path.{_≡_, refl, sym, ap, _∙_}
+use Rattle.rules.specs.Job.{place}
+use Rattle.rules.specs.Answers.{refusal-number, value-number, MovedFigures, AdvisedFigures, planned-figure, moved-figures, advised-figures}
+use Rattle.rules.specs.declared.answer.Refusal.{Refusal}
+use Rattle.rules.specs.declared.answer.Value.{Value}
+use Rattle.rules.specs.declared.answer.Planned.{Planned}
+use Rattle.rules.specs.declared.answer.Moved.{Moved}
+use Rattle.rules.specs.declared.answer.Advised.{Advised}
+
+-- what can be read back from an image is known by it
+pub known-by : {A B : Type 0} (f : A → B) (g : B → A) → ((x : A) → g (f x) ≡ x) → (x y : A) → f x ≡ f y → x ≡ y
+known-by f g back x y e = sym (back x) ∙ ap g e ∙ back y
+
+abbrev refusal-of : ℕ → Refusal
+refusal-of zero = Refusal.Short
+refusal-of (suc zero) = Refusal.Short
+refusal-of (suc (suc zero)) = Refusal.Contents
+refusal-of (suc (suc (suc zero))) = Refusal.Counts
+refusal-of (suc (suc (suc (suc zero)))) = Refusal.Labels
+refusal-of (suc (suc (suc (suc (suc zero))))) = Refusal.Moves
+refusal-of (suc (suc (suc (suc (suc (suc zero)))))) = Refusal.Goal
+refusal-of (suc (suc (suc (suc (suc (suc (suc zero))))))) = Refusal.Room
+refusal-of (suc (suc (suc (suc (suc (suc (suc (suc zero)))))))) = Refusal.Rounds
+refusal-of (suc (suc (suc (suc (suc (suc (suc (suc (suc zero))))))))) = Refusal.Place
+refusal-of (suc (suc (suc (suc (suc (suc (suc (suc (suc (suc zero)))))))))) = Refusal.Entry
+refusal-of (suc (suc (suc (suc (suc (suc (suc (suc (suc (suc (suc n))))))))))) = Refusal.Outcome
+
+abbrev value-of : ℕ → Value
+value-of zero = Value.Losing
+value-of (suc zero) = Value.Pending
+value-of (suc (suc n)) = Value.Winning
+
+-- a refusal's number is never 0, and no two refusals share one
+pub refusal-back : (r : Refusal) → refusal-of (refusal-number r) ≡ r
+refusal-back Refusal.Short = refl
+refusal-back Refusal.Contents = refl
+refusal-back Refusal.Counts = refl
+refusal-back Refusal.Labels = refl
+refusal-back Refusal.Moves = refl
+refusal-back Refusal.Goal = refl
+refusal-back Refusal.Room = refl
+refusal-back Refusal.Rounds = refl
+refusal-back Refusal.Place = refl
+refusal-back Refusal.Entry = refl
+refusal-back Refusal.Outcome = refl
+
+pub refusal-some : (r : Refusal) → (n : ℕ) × (refusal-number r ≡ suc n)
+refusal-some Refusal.Short = (0, refl)
+refusal-some Refusal.Contents = (1, refl)
+refusal-some Refusal.Counts = (2, refl)
+refusal-some Refusal.Labels = (3, refl)
+refusal-some Refusal.Moves = (4, refl)
+refusal-some Refusal.Goal = (5, refl)
+refusal-some Refusal.Room = (6, refl)
+refusal-some Refusal.Rounds = (7, refl)
+refusal-some Refusal.Place = (8, refl)
+refusal-some Refusal.Entry = (9, refl)
+refusal-some Refusal.Outcome = (10, refl)
+
+pub value-back : (v : Value) → value-of (value-number v) ≡ v
+value-back Value.Losing = refl
+value-back Value.Pending = refl
+value-back Value.Winning = refl
+
+abbrev by-refusal : {A : Type 0} → ℕ → A → (Refusal → A) → A
+by-refusal zero done refused = done
+by-refusal (suc n) done refused = refused (refusal-of (suc n))
+
+by-refusal-back : {A : Type 0} (r : Refusal) (done : A) (refused : Refusal → A) → by-refusal (refusal-number r) done refused ≡ refused r
+by-refusal-back r done refused =
+    let n = refusal-some r in
+    rw (n .1) (ap refused (ap refusal-of (sym (n .1)) ∙ refusal-back r))
+
+planned-back : (r : Planned) → by-refusal (planned-figure r) Planned.Done Planned.Refused ≡ r
+planned-back Planned.Done = refl
+planned-back (Planned.Refused r) = by-refusal-back r Planned.Done Planned.Refused
+
+abbrev moved-of : MovedFigures → Moved
+moved-of f = by-refusal (f .refusal) (Moved.To (place (f .state) (f .goal))) Moved.Refused
+
+moved-back : (r : Moved) → moved-of (moved-figures r) ≡ r
+moved-back (Moved.To p) = refl
+moved-back (Moved.Refused r) = by-refusal-back r _ Moved.Refused
+
+abbrev advised-of : AdvisedFigures → Advised
+advised-of f = by-refusal (f .refusal) (Advised.Says (value-of (f .value)) (f .action) (f .number)) Advised.Refused
+
+advised-back : (r : Advised) → advised-of (advised-figures r) ≡ r
+advised-back (Advised.Says v a n) = ap (λ (w : Value). Advised.Says w a n) (value-back v)
+advised-back (Advised.Refused r) = by-refusal-back r _ Advised.Refused
+
+pub planned-known : (r s : Planned) → planned-figure r ≡ planned-figure s → r ≡ s
+planned-known = known-by planned-figure (λ n. by-refusal n Planned.Done Planned.Refused) planned-back
+
+pub moved-known : (r s : Moved) → moved-figures r ≡ moved-figures s → r ≡ s
+moved-known = known-by moved-figures moved-of moved-back
+
+pub advised-known : (r s : Advised) → advised-figures r ≡ advised-figures s → r ≡ s
+advised-known = known-by advised-figures advised-of advised-back

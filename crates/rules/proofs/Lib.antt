@@ -1,0 +1,21 @@
+-- The laws that belong to no one function.
+pub mod Tests
+pub mod Search
+pub mod Rounds
+pub mod Plays
+pub mod Values
+pub mod Hopes
+pub mod Right
+pub mod Bounds
+pub mod Following
+pub mod Rows
+pub mod Kept
+pub mod Arenas
+pub mod Figures
+pub mod Plans
+pub mod Unique
+pub mod Marked
+pub mod Bits
+pub mod LowestBit
+pub mod Members
+pub mod Entries

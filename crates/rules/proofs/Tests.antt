@@ -1,0 +1,94 @@
+-- Laws of the tests: what a test that passes says, for `&&`, `||`, the tests over all numbers below one, and the order of records.
+use Prim.Native.Nat.{ℕ, zero, suc, _≤_, _<_}
+use mathlib.Core.Bool.{Bool, true, false, _&&_, _||_, false≢true}
+use mathlib.Core.Logic.{_⊎_, inl, inr, ⊎-elim, _↔_, Iff·trans}
+use mathlib.Core.Path.{_≡_, refl}
+use native.Mathlib.Nat.{eq-or-lt-of-le, le-of-suc-le-suc}
+use native.Mathlib.Omega.{arith}
+use borrow.Author.Tests.{ltb-true, lt-ltb, leb-true, le-leb, eqb-true, eq-eqb}
+use lib.Dec.{leb, ltb, eqb}
+use Rattle.rules.specs.Job.{every-below, some-below}
+use Rattle.rules.specs.Bytes.{before}
+use Rattle.rules.specs.Keeps.{Before}
+use Rattle.rules.specs.declared.place.Move.{Move}
+
+-- ---- two tests
+
+pub and-iff : {x y : Bool} {A B : Type 0} → (x ≡ true) ↔ A → (y ≡ true) ↔ B → ((x && y) ≡ true) ↔ (A × B)
+and-iff {x = true} p q = (λ e. (p .0 refl, q .0 e), λ t. q .1 (t .1))
+and-iff {x = false} p q = (λ e. absurd (false≢true e), λ t. p .1 (t .0))
+
+pub or-iff : {x y : Bool} {A B : Type 0} → (x ≡ true) ↔ A → (y ≡ true) ↔ B → ((x || y) ≡ true) ↔ (A ⊎ B)
+or-iff {x = true} p q = (λ e. inl (p .0 refl), λ t. refl)
+or-iff {x = false} p q = (λ e. inr (q .0 e), ⊎-elim (λ a. absurd (false≢true (p .1 a))) (q .1))
+
+-- ---- two numbers
+
+pub ltb-iff : (a b : ℕ) → (ltb a b ≡ true) ↔ (a < b)
+ltb-iff a b = (ltb-true a b, lt-ltb a b)
+
+pub leb-iff : (a b : ℕ) → (leb a b ≡ true) ↔ (a ≤ b)
+leb-iff a b = (leb-true a b, le-leb a b)
+
+pub eqb-iff : (a b : ℕ) → (eqb a b ≡ true) ↔ (a ≡ b)
+eqb-iff a b = (eqb-true a b, eq-eqb a b)
+
+-- ---- the numbers below one
+
+-- a number below n + 1 is n or below n
+pub last-or-below : {k n : ℕ} → k < suc n → (k ≡ n) ⊎ (k < n)
+last-or-below h = eq-or-lt-of-le (le-of-suc-le-suc h)
+
+module _ {A : ℕ → Type 0} where
+  -- what holds everywhere below n + 1 holds everywhere below n and at n; what holds somewhere below it, somewhere below n or at n
+  all-suc : (n : ℕ) → (((k : ℕ) → k < n → A k) × A n) ↔ ((k : ℕ) → k < suc n → A k)
+  all-suc n = (λ t k h. ⊎-elim (λ e. rw e (t .1)) (t .0 k) (last-or-below h), λ t. (λ k h. t k (omega arith), t n (omega arith)))
+
+  pub one-suc : (n : ℕ) → (((k : ℕ) × (k < n) × A k) ⊎ A n) ↔ ((k : ℕ) × (k < suc n) × A k)
+  one-suc n = (⊎-elim (λ t. (t .0, omega arith, t .2)) (λ a. (n, omega arith, a)), λ t. go (t .0) (t .2) (last-or-below (t .1)))
+    where
+      go : (k : ℕ) → A k → (k ≡ n) ⊎ (k < n) → ((k : ℕ) × (k < n) × A k) ⊎ A n
+      go k a (inl e) = inr (rw e at a)
+      go k a (inr h) = inl (k, h, a)
+
+  module _ (f : ℕ → Bool) (p : (k : ℕ) → (f k ≡ true) ↔ A k) where
+    pub every-iff : (n : ℕ) → (every-below n f ≡ true) ↔ ((k : ℕ) → k < n → A k)
+    every-iff zero = (λ e k h. absurd (omega arith), λ t. refl)
+    every-iff (suc n) = Iff·trans (and-iff (every-iff n) (p n)) (all-suc n)
+
+    pub some-iff : (n : ℕ) → (some-below n f ≡ true) ↔ ((k : ℕ) × (k < n) × A k)
+    some-iff zero = (λ e. absurd (false≢true e), λ t. absurd (omega (arith, t .1)))
+    some-iff (suc n) = Iff·trans (or-iff (some-iff n) (p n)) (one-suc n)
+
+-- two things that hold of each number below n
+pub all-and : {A B : ℕ → Type 0} (n : ℕ) → ((k : ℕ) → k < n → A k × B k) ↔ (((k : ℕ) → k < n → A k) × ((k : ℕ) → k < n → B k))
+all-and n = (λ t. (λ k h. t k h .0, λ k h. t k h .1), λ t k h. (t .0 k h, t .1 k h))
+
+-- ---- records in order
+
+pub before-iff : (m n : Move) → (before m n ≡ true) ↔ Before m n
+before-iff m n =
+    or-iff (ltb-iff (m .state) (n .state))
+    (and-iff (eqb-iff (m .state) (n .state))
+    (or-iff (ltb-iff (m .action) (n .action)) (and-iff (eqb-iff (m .action) (n .action)) (ltb-iff (m .outcome) (n .outcome)))))
+
+pub before-state : {m n : Move} → Before m n → m .state ≤ n .state
+before-state (inl h) = omega arith
+before-state (inr h) = omega arith
+
+pub before-trans : {l m n : Move} → Before l m → Before m n → Before l n
+before-trans (inl h) (inl k) = inl (omega arith)
+before-trans (inl h) (inr k) = inl (omega arith)
+before-trans (inr h) (inl k) = inl (omega arith)
+before-trans (inr (d, inl h)) (inr (e, inl k)) = inr (omega arith, inl (omega arith))
+before-trans (inr (d, inl h)) (inr (e, inr k)) = inr (omega arith, inl (omega arith))
+before-trans (inr (d, inr h)) (inr (e, inl k)) = inr (omega arith, inl (omega arith))
+before-trans (inr (d, inr h)) (inr (e, inr k)) = inr (omega arith, inr (omega arith, omega arith))
+
+pub before-differ : {m n : Move} → Before m n → m .state ≡ n .state → m .action ≡ n .action → m .outcome ≡ n .outcome → ⊥
+before-differ (inl h) s a t = omega arith
+before-differ (inr (e, inl h)) s a t = omega arith
+before-differ (inr (e, inr h)) s a t = omega arith
+
+pub before-irrefl : (m : Move) → Before m m → ⊥
+before-irrefl m h = before-differ h refl refl refl

@@ -1,0 +1,62 @@
+-- Two results that one promise allows are the same, for each public call: the answer, and of planning the whole buffer too.
+use Prim.Native.Nat.{ℕ, _<_}
+use mathlib.Core.List.{List, _++_}
+use mathlib.Core.Logic.{inl, inr}
+use mathlib.Core.Path.{_≡_, refl, sym, ap, _∙_}
+use native.Mathlib.Omega.{arith}
+use lib.ListN.{drop}
+use Rattle.rules.specs.Job.{arena}
+use Rattle.rules.specs.Bytes.{said}
+use Rattle.rules.specs.Keeps.{Keeps}
+use Rattle.rules.specs.Plan.{room}
+use Rattle.rules.specs.Calls.{Overrun, Planning, refused, no-room, overrun, planned, started, followed, advised}
+use Rattle.rules.specs.Answers.{planned-figure, moved-figures, advised-figures}
+use Rattle.rules.specs.declared.answer.Planned.{Planned}
+use Rattle.rules.specs.declared.answer.Moved.{Moved}
+use Rattle.rules.specs.declared.answer.Advised.{Advised}
+use Rattle.rules.proofs.Bounds.{wins-below, hopes-below}
+use Rattle.rules.proofs.Kept.{kept}
+use Rattle.rules.proofs.Arenas.{size-of, arena-lawful}
+use Rattle.rules.proofs.Plans.{plan-unique}
+use Rattle.rules.proofs.Figures.{planned-known, moved-known, advised-known}
+
+below : {m n : ℕ} → m < n → n ≡ m → ⊥
+below h e = omega arith
+
+-- No place of a job that keeps the rules has the number S·Q.
+pub no-overrun : (b : List ℕ) → Keeps b → Overrun (said b) → ⊥
+no-overrun b k (p, i, inl w) = below (wins-below (arena (said b)) (arena-lawful b k) _ p i w) (size-of (said b))
+no-overrun b k (p, i, inr (h, n)) = below (hopes-below (arena (said b)) (arena-lawful b k) _ p i n) (size-of (said b))
+
+pub planning-unique : {b before after after′ : List ℕ} {r r′ : ℕ} → Planning b before r after → Planning b before r′ after′
+    → (r ≡ r′) × (after ≡ after′)
+planning-unique (refused n) (refused n′) = (refl, refl)
+planning-unique (refused n) (no-room e l) = absurd (n e)
+planning-unique (refused n) (overrun e l o) = absurd (n e)
+planning-unique (refused n) (planned e l o p) = absurd (n e)
+planning-unique (no-room e l) (refused n) = absurd (n e)
+planning-unique (no-room e l) (no-room e′ l′) = (refl, refl)
+planning-unique (no-room e l) (overrun e′ l′ o) = absurd (omega arith)
+planning-unique (no-room e l) (planned e′ l′ o p) = absurd (omega arith)
+planning-unique (overrun e l o) (refused n) = absurd (n e)
+planning-unique (overrun e l o) (no-room e′ l′) = absurd (omega arith)
+planning-unique (overrun e l o) (overrun e′ l′ o′) = (refl, refl)
+planning-unique (overrun e l o) (planned e′ l′ n p) = absurd (n o)
+planning-unique (planned e l n p) (refused n′) = absurd (n′ e)
+planning-unique (planned e l n p) (no-room e′ l′) = absurd (omega arith)
+planning-unique (planned e l n p) (overrun e′ l′ o) = absurd (n o)
+planning-unique {b} {before} (planned e l n p) (planned e′ l′ n′ p′) =
+    (refl, ap (λ (x : List ℕ). x ++ drop (room (said b)) before) (plan-unique (said b) (arena-lawful b (kept b .0 e)) p p′))
+
+pub planned-unique : {b before after after′ : List ℕ} (r r′ : Planned) → Planning b before (planned-figure r) after
+    → Planning b before (planned-figure r′) after′ → (r ≡ r′) × (after ≡ after′)
+planned-unique r r′ p p′ = let u = planning-unique p p′ in (planned-known r r′ (u .0), u .1)
+
+pub started-unique : (b : List ℕ) (r r′ : Moved) → moved-figures r ≡ started b → moved-figures r′ ≡ started b → r ≡ r′
+started-unique b r r′ e e′ = moved-known r r′ (e ∙ sym e′)
+
+pub followed-unique : (b : List ℕ) (s q a t : ℕ) (r r′ : Moved) → moved-figures r ≡ followed b s q a t → moved-figures r′ ≡ followed b s q a t → r ≡ r′
+followed-unique b s q a t r r′ e e′ = moved-known r r′ (e ∙ sym e′)
+
+pub advised-unique : (b p : List ℕ) (s q : ℕ) (r r′ : Advised) → advised-figures r ≡ advised b p s q → advised-figures r′ ≡ advised b p s q → r ≡ r′
+advised-unique b p s q r r′ e e′ = advised-known r r′ (e ∙ sym e′)

@@ -1,0 +1,123 @@
+-- A job in bytes: the job that they say, and the first number of the table that applies to them.
+-- Document 01, "A job in bytes" and "Numbers that say no", 1 to 6.
+use Prim.Native.Nat.{ℕ, zero, suc, _+_, _*_, _/_, _%_, _^_}
+use mathlib.Core.Bool.{Bool, true, cond, not, _&&_, _||_}
+use mathlib.Core.List.{List}
+use lib.Dec.{leb, ltb, eqb}
+use lib.ListN.{length, getD}
+use Rattle.rules.specs.Job.{Job, every-below}
+use Rattle.rules.specs.declared.place.Move.{Move}
+
+-- a number of two bytes, low byte first
+abbrev pub word : List ℕ → ℕ → ℕ
+word b i = getD b i 0 + 256 * getD b (i + 1) 0
+
+-- The contents: body i has its offset at 4 i, and its length after it. Bodies: 0 Counts, 1 Labels, 2 Moves, 3 Goal.
+abbrev pub offset : List ℕ → ℕ → ℕ
+offset b i = word b (4 * i)
+
+abbrev pub size : List ℕ → ℕ → ℕ
+size b i = word b (4 * i + 2)
+
+-- where body i ends, and its byte k
+abbrev pub end : List ℕ → ℕ → ℕ
+end b i = offset b i + size b i
+
+abbrev pub byte : List ℕ → ℕ → ℕ → ℕ
+byte b i k = getD b (offset b i + k) 0
+
+-- a record: state, action, outcome; and record k of Moves
+abbrev pub record-at : List ℕ → ℕ → Move
+record-at b i = record { state = getD b i 0; action = getD b (i + 1) 0; outcome = getD b (i + 2) 0 }
+
+abbrev pub move : List ℕ → ℕ → Move
+move b k = record-at b (offset b 2 + 3 * k)
+
+-- how many labels there are, and bytes before the marks
+abbrev pub width : List ℕ → ℕ
+width b = 2 ^ byte b 0 2
+
+abbrev pub rows : List ℕ → ℕ
+rows b = byte b 0 3 * width b
+
+-- the mark of goal state q
+abbrev pub mark : List ℕ → ℕ → ℕ
+mark b q = byte b 3 (rows b + q)
+
+-- the job that the bytes say
+abbrev pub said : List ℕ → Job
+said b =
+    record {
+      states = byte b 0 0;
+      actions = byte b 0 1;
+      propositions = byte b 0 2;
+      goals = byte b 0 3;
+      first = byte b 0 4;
+      first-goal = byte b 0 5;
+      label = byte b 1;
+      records = size b 2 / 3;
+      move = move b;
+      next = λ q l. byte b 3 (q * width b + l);
+      final = λ q. eqb (mark b q) 1;
+    }
+
+-- Bodies follow in order with no gap, the first at 16, and the last ends where the job ends; Counts is 6 long.
+abbrev pub contents : List ℕ → Bool
+contents b =
+    eqb (offset b 0) 16
+    && (eqb (offset b 1) (end b 0)
+    && (eqb (offset b 2) (end b 1)
+    && (eqb (offset b 3) (end b 2)
+    && (eqb (length b) (end b 3)
+    && eqb (size b 0) 6))))
+
+-- S, A, P and Q, and the first state f and first goal state g, each in its range
+abbrev pub in-range : ℕ → ℕ → ℕ → ℕ → ℕ → ℕ → Bool
+in-range s a p q f g =
+    leb 1 s && (leb s 128 && (leb 1 a && (leb a 16 && (leb p 6 && (leb 1 q && (leb q 32 && (ltb f s && ltb g q)))))))
+
+abbrev pub counts : Job → Bool
+counts j = in-range (j .states) (j .actions) (j .propositions) (j .goals) (j .first) (j .first-goal)
+
+abbrev pub labels : List ℕ → Bool
+labels b = eqb (size b 1) (said b .states) && every-below (said b .states) (λ s. ltb (said b .label s) (width b))
+
+-- the fields of a record in their ranges, with s states and a actions
+abbrev pub within : ℕ → ℕ → Move → Bool
+within s a m = ltb (m .state) s && (ltb (m .action) a && ltb (m .outcome) s)
+
+-- one record before another as triples, compared field by field
+abbrev pub before : Move → Move → Bool
+before m n =
+    ltb (m .state) (n .state)
+    || eqb (m .state) (n .state)
+    && (ltb (m .action) (n .action) || eqb (m .action) (n .action) && ltb (m .outcome) (n .outcome))
+
+-- record k comes after the one before it
+abbrev pub follows : (ℕ → Move) → ℕ → Bool
+follows f zero = true
+follows f (suc k) = before (f k) (f (suc k))
+
+-- a record is judged by its fields, and by its order after the one before it
+abbrev pub good : Job → ℕ → Bool
+good j k = within (j .states) (j .actions) (j .move k) && follows (j .move) k
+
+abbrev pub moves : List ℕ → Bool
+moves b = eqb (size b 2 % 3) 0 && (leb (size b 2) 12288 && every-below (said b .records) (good (said b)))
+
+abbrev pub goal : List ℕ → Bool
+goal b =
+    eqb (size b 3) (rows b + said b .goals)
+    && (every-below (rows b) (λ i. ltb (byte b 3 i) (said b .goals))
+    && every-below (said b .goals) (λ q. leb (mark b q) 1))
+
+-- The first number of the table that applies to the bytes alone, or 0.
+abbrev pub refusal : List ℕ → ℕ
+refusal b =
+    cond (ltb (length b) 16) 1
+    (cond (not (contents b)) 2
+    (cond (not (counts (said b))) 3
+    (cond (not (labels b)) 4
+    (cond (not (moves b)) 5
+    (cond (not (goal b)) 6
+    0)))))

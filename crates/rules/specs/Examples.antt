@@ -1,0 +1,60 @@
+-- The worked jobs of document 01, in bytes: One plate, Bare with either mark, and Early; and the fifteen marked cases.
+use Prim.Native.Nat.{ℕ}
+use mathlib.Core.List.{List, [], _∷_}
+use Rattle.rules.specs.Game.{says}
+use Rattle.rules.specs.Job.{place}
+use Rattle.rules.specs.declared.place.Place.{Place}
+use Rattle.rules.specs.declared.entry.Entry.{Entry}
+
+abbrev pub plate : List ℕ
+plate =
+    0x10 ∷ 0 ∷ 0x06 ∷ 0 ∷ 0x16 ∷ 0 ∷ 0x04 ∷ 0 ∷ 0x1a ∷ 0 ∷ 0x12 ∷ 0 ∷ 0x2c ∷ 0 ∷ 0x0f ∷ 0
+    ∷ 4 ∷ 3 ∷ 2 ∷ 3 ∷ 0 ∷ 0
+    ∷ 2 ∷ 0 ∷ 1 ∷ 0
+    ∷ 0 ∷ 0 ∷ 1 ∷ 0 ∷ 0 ∷ 3 ∷ 1 ∷ 1 ∷ 1 ∷ 1 ∷ 1 ∷ 2 ∷ 1 ∷ 2 ∷ 0 ∷ 2 ∷ 2 ∷ 0
+    ∷ 0 ∷ 1 ∷ 0 ∷ 1 ∷ 1 ∷ 1 ∷ 2 ∷ 2 ∷ 2 ∷ 2 ∷ 2 ∷ 2 ∷ 0 ∷ 0 ∷ 1 ∷ []
+
+-- one state, one action, no proposition, no moves, one goal state with the mark m
+abbrev pub bare : ℕ → List ℕ
+bare m =
+    0x10 ∷ 0 ∷ 6 ∷ 0 ∷ 0x16 ∷ 0 ∷ 1 ∷ 0 ∷ 0x17 ∷ 0 ∷ 0 ∷ 0 ∷ 0x17 ∷ 0 ∷ 2 ∷ 0
+    ∷ 1 ∷ 1 ∷ 0 ∷ 1 ∷ 0 ∷ 0
+    ∷ 0
+    ∷ 0 ∷ m ∷ []
+
+-- the same with two goal states, the first one final, both leading to the second
+abbrev pub early : List ℕ
+early =
+    0x10 ∷ 0 ∷ 6 ∷ 0 ∷ 0x16 ∷ 0 ∷ 1 ∷ 0 ∷ 0x17 ∷ 0 ∷ 0 ∷ 0 ∷ 0x17 ∷ 0 ∷ 4 ∷ 0
+    ∷ 1 ∷ 1 ∷ 0 ∷ 2 ∷ 0 ∷ 0
+    ∷ 0
+    ∷ 1 ∷ 1 ∷ 1 ∷ 0 ∷ []
+
+-- The marked cases: of this job, the plan says at this place this.
+pub record Case : Type 0 where
+  pub job : List ℕ
+  pub at : Place
+  pub entry : Entry
+
+abbrev pub case : List ℕ → Place → Entry → Case
+case b p e = record { job = b; at = p; entry = e }
+
+-- the twelve entries of One plate, both Bare jobs, and Early where it starts
+abbrev pub marked : List Case
+marked =
+    case plate (place 0 0) (says 1 0 2)
+    ∷ case plate (place 0 1) (says 1 0 1)
+    ∷ case plate (place 0 2) (says 2 255 0)
+    ∷ case plate (place 1 0) (says 1 1 1)
+    ∷ case plate (place 1 1) (says 2 2 1)
+    ∷ case plate (place 1 2) (says 2 255 0)
+    ∷ case plate (place 2 0) (says 1 2 3)
+    ∷ case plate (place 2 1) (says 2 2 1)
+    ∷ case plate (place 2 2) (says 2 255 0)
+    ∷ case plate (place 3 0) (says 0 255 0)
+    ∷ case plate (place 3 1) (says 0 255 0)
+    ∷ case plate (place 3 2) (says 2 255 0)
+    ∷ case (bare 0) (place 0 0) (says 0 255 0)
+    ∷ case (bare 1) (place 0 0) (says 2 255 0)
+    ∷ case early (place 0 1) (says 0 255 0)
+    ∷ []

@@ -1,0 +1,10 @@
+pub mod Sets
+pub mod Lowest
+pub mod Game
+pub mod Job
+pub mod Bytes
+pub mod Keeps
+pub mod Answers
+pub mod Plan
+pub mod Calls
+pub mod Examples

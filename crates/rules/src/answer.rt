@@ -1,0 +1,79 @@
+// The answers of the calls, and the numbers that stand for them.
+ghost use mathlib.Core.Path.{_≡_};
+ghost use Rattle.rules.specs.Answers.{refusal-number, value-number};
+use crate::place::Place;
+
+// Why a call says no: the names of the table of numbers that say no, in its order.
+pub enum Refusal {
+    Short,
+    Contents,
+    Counts,
+    Labels,
+    Moves,
+    Goal,
+    Room,
+    Rounds,
+    Place,
+    Entry,
+    Outcome,
+}
+
+pub enum Value {
+    Losing,
+    Pending,
+    Winning,
+}
+
+// What planning answers.
+pub enum Planned {
+    Done,
+    Refused(Refusal),
+}
+
+// What starting and following answer.
+pub enum Moved {
+    To(Place),
+    Refused(Refusal),
+}
+
+// What advice answers.
+pub enum Advised {
+    Says {
+        value: Value,
+        action: u8,
+        number: u16,
+    },
+    Refused(Refusal),
+}
+
+impl Refusal {
+    pub fn number(self) -> u32
+        ensures { λ r. ⌜ r ≡ refusal-number self ⌝ }
+    {
+        match self {
+            Refusal::Short => 1,
+            Refusal::Contents => 2,
+            Refusal::Counts => 3,
+            Refusal::Labels => 4,
+            Refusal::Moves => 5,
+            Refusal::Goal => 6,
+            Refusal::Room => 7,
+            Refusal::Rounds => 8,
+            Refusal::Place => 9,
+            Refusal::Entry => 10,
+            Refusal::Outcome => 11,
+        }
+    }
+}
+
+impl Value {
+    pub fn number(self) -> u8
+        ensures { λ r. ⌜ r ≡ value-number self ⌝ }
+    {
+        match self {
+            Value::Losing => 0,
+            Value::Pending => 1,
+            Value::Winning => 2,
+        }
+    }
+}
