@@ -66,7 +66,10 @@ bit-suc n k = ap (λ (x : ℕ). eqb (n / 2 ^ x % 2) 1) (sym (one-add k)) ∙ ap 
 pub bit-above : (n w k : ℕ) → n < 2 ^ w → w ≤ k → bit n k ≡ false
 bit-above n w k h l = rw (div-eq-of-lt (lt-of-lt-of-le h (pow-mono l)))
 
--- so a bit from p on makes it 2 ^ p at least
+pub bit-none : (k : ℕ) → bit 0 k ≡ false
+bit-none k = bit-above 0 0 k (omega arith) (omega arith)
+
+-- a number with a bit from p on is 2 ^ p at least
 pub set-above : (n p k : ℕ) → p ≤ k → bit n k ≡ true → 2 ^ p ≤ n
 set-above n p k l e =
     ⊎-elim (λ (h : n < 2 ^ p). absurd (true≢false (sym e ∙ bit-above n p k h l))) (λ (h : 2 ^ p ≤ n). h) (below-or n (2 ^ p))

@@ -14,7 +14,7 @@ use lib.Dec.{eqb}
 use lib.ListN.{getD, set, length, replicate, length-set, List·getD-eq-default}
 use lib.Seq.{getD-set-same, getD-set-other}
 use Rattle.rules.specs.Sets.{bit, member, one, count, Put}
-use Rattle.rules.proofs.Bits.{bit-zero, bit-suc, two, below-or, same-or, bit-or, bit-pow, bit-above, one-shl}
+use Rattle.rules.proofs.Bits.{bit-zero, bit-suc, two, below-or, same-or, bit-or, bit-pow, bit-none, one-shl}
 
 -- ---- members
 
@@ -45,7 +45,7 @@ member-with ws i j h = ⊎-elim here there (same-or (j / 64) (i / 64))
 
 -- no place from the end on
 pub member-past : (ws : List ℕ) (i : ℕ) → length ws * 64 ≤ i → member ws i ≡ false
-member-past ws i h = rw (List·getD-eq-default ws 0 {n = i / 64} (omega arith)) (bit-above 0 0 (i % 64) (omega arith) (omega arith))
+member-past ws i h = rw (List·getD-eq-default ws 0 {n = i / 64} (omega arith)) (bit-none (i % 64))
 
 zeros : (n k : ℕ) → _≡_ {A = ℕ} (getD (replicate n 0) k 0) 0
 zeros zero k = refl
@@ -53,7 +53,7 @@ zeros (suc n) zero = refl
 zeros (suc n) (suc k) = zeros n k
 
 pub member-zeros : (n i : ℕ) → member (replicate n 0) i ≡ false
-member-zeros n i = rw (zeros n (i / 64)) (bit-above 0 0 (i % 64) (omega arith) (omega arith))
+member-zeros n i = rw (zeros n (i / 64)) (bit-none (i % 64))
 
 -- ---- what putting i into a set leaves: the machine's store where there is room, and the set itself where there is none
 

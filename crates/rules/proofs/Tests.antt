@@ -1,9 +1,10 @@
 -- Laws of the tests: what a test that passes says, for `&&`, `||`, the tests over all numbers below one, and the order of records.
-use Prim.Native.Nat.{ℕ, zero, suc, _≤_, _<_}
+use Prim.Native.Nat.{ℕ, zero, suc, _+_, _≤_, _<_}
 use mathlib.Core.Bool.{Bool, true, false, _&&_, _||_, false≢true}
-use mathlib.Core.Logic.{_⊎_, inl, inr, ⊎-elim, _↔_, Iff·trans}
+use mathlib.Core.Logic.{_⊎_, inl, inr, ⊎-elim, _↔_, Iff·rfl, Iff·trans}
 use mathlib.Core.Path.{_≡_, refl}
 use native.Mathlib.Nat.{eq-or-lt-of-le, le-of-suc-le-suc}
+use native.Mathlib.Numerals.{add-one}
 use native.Mathlib.Omega.{arith}
 use borrow.Author.Tests.{ltb-true, lt-ltb, leb-true, le-leb, eqb-true, eq-eqb}
 use lib.Dec.{leb, ltb, eqb}
@@ -11,6 +12,7 @@ use Rattle.rules.specs.Job.{every-below, some-below}
 use Rattle.rules.specs.Bytes.{before}
 use Rattle.rules.specs.Keeps.{Before}
 use Rattle.rules.specs.declared.place.Move.{Move}
+use Rattle.rules.proofs.Search.{clash, if-not-true}
 
 -- ---- two tests
 
@@ -59,6 +61,19 @@ module _ {A : ℕ → Type 0} where
     pub some-iff : (n : ℕ) → (some-below n f ≡ true) ↔ ((k : ℕ) × (k < n) × A k)
     some-iff zero = (λ e. absurd (false≢true e), λ t. absurd (omega (arith, t .1)))
     some-iff (suc n) = Iff·trans (or-iff (some-iff n) (p n)) (one-suc n)
+
+-- a loop over the numbers below n: one more that passes, and one that ends it
+pub every-more : (f : ℕ → Bool) (k : ℕ) → every-below k f ≡ true → f k ≡ true → every-below (k + 1) f ≡ true
+every-more f k e h = rw (add-one k, e) h
+
+pub every-stops : (f : ℕ → Bool) (n k : ℕ) → k < n → f k ≡ false → every-below n f ≡ false
+every-stops f n k h e = if-not-true (every-below n f) (λ t. clash (every-iff f (λ i. Iff·rfl) n .0 t k h) e)
+
+pub some-more : (f : ℕ → Bool) (k : ℕ) → some-below k f ≡ false → f k ≡ false → some-below (k + 1) f ≡ false
+some-more f k e h = rw (add-one k, e) h
+
+pub some-stops : (f : ℕ → Bool) (n k : ℕ) → k < n → f k ≡ true → some-below n f ≡ true
+some-stops f n k h e = some-iff f (λ i. Iff·rfl) n .1 (k, h, e)
 
 -- two things that hold of each number below n
 pub all-and : {A B : ℕ → Type 0} (n : ℕ) → ((k : ℕ) → k < n → A k × B k) ↔ (((k : ℕ) → k < n → A k) × ((k : ℕ) → k < n → B k))

@@ -4,13 +4,13 @@ use native.Mathlib.Omega.{arith}
 use lib.Count.{trailing-le}
 use mir.Syntax.{w16}
 use mir.Val.{Fits}
-use Rattle.rules.proofs.Bits.{bit-above}
+use Rattle.rules.proofs.Bits.{bit-none}
 use Rattle.rules.proofs.LowestBit.{trailing-lowest}
 use Rattle.rules.proofs.actions.ActionSet.lowest.Statement.{statement}
 use Rattle.rules.proofs.actions.ActionSet.lowest.Tie as tie
 
 returns : tie.Need-returns
-returns c k = bit-above (c .before .before .args .self .bits) 0 k (omega (arith, c .if1 .taken)) (omega arith)
+returns c = rw (c .if1 .taken) bit-none
 
 cast-t4 : tie.Need-cast-t4
 cast-t4 c = omega (arith, trailing-le 16 (c .before .before .before .args .self .bits))
