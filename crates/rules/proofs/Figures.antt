@@ -13,7 +13,7 @@ use Rattle.rules.specs.declared.answer.Advised.{Advised}
 pub known-by : {A B : Type 0} (f : A → B) (g : B → A) → ((x : A) → g (f x) ≡ x) → (x y : A) → f x ≡ f y → x ≡ y
 known-by f g back x y e = sym (back x) ∙ ap g e ∙ back y
 
-abbrev refusal-of : ℕ → Refusal
+abbrev pub refusal-of : ℕ → Refusal
 refusal-of zero = Refusal.Short
 refusal-of (suc zero) = Refusal.Short
 refusal-of (suc (suc zero)) = Refusal.Contents
@@ -64,11 +64,11 @@ value-back Value.Losing = refl
 value-back Value.Pending = refl
 value-back Value.Winning = refl
 
-abbrev by-refusal : {A : Type 0} → ℕ → A → (Refusal → A) → A
+abbrev pub by-refusal : {A : Type 0} → ℕ → A → (Refusal → A) → A
 by-refusal zero done refused = done
 by-refusal (suc n) done refused = refused (refusal-of (suc n))
 
-by-refusal-back : {A : Type 0} (r : Refusal) (done : A) (refused : Refusal → A) → by-refusal (refusal-number r) done refused ≡ refused r
+pub by-refusal-back : {A : Type 0} (r : Refusal) (done : A) (refused : Refusal → A) → by-refusal (refusal-number r) done refused ≡ refused r
 by-refusal-back r done refused =
     let n = refusal-some r in
     rw (n .1) (ap refused (ap refusal-of (sym (n .1)) ∙ refusal-back r))

@@ -13,7 +13,7 @@ use lib.Arith.{digits-lt}
 use lib.Pow.{pow-pos, pow-mono}
 use Rattle.rules.specs.Job.{Job, every-below, places}
 use Rattle.rules.specs.Bytes.{offset, size, end, byte, width, rows, mark, said}
-use Rattle.rules.specs.Bytes.{contents, counts, labels, within, follows, good, moves, goal, refusal}
+use Rattle.rules.specs.Bytes.{contents, in-range, counts, labels, within, follows, good, moves, goal, refusal}
 use Rattle.rules.specs.Keeps.{Before, Keeps}
 use Rattle.rules.specs.declared.place.Move.{Move}
 use Rattle.rules.proofs.Rows.{rows-iff}
@@ -35,21 +35,22 @@ contents-iff b =
     (and-iff (eqb-iff (offset b 3) (end b 2))
     (and-iff (eqb-iff (length b) (end b 3)) (eqb-iff (size b 0) 6)))))
 
+-- S, A, P and Q, and the first state f and first goal state g, each in its range
+abbrev pub InRange : ℕ → ℕ → ℕ → ℕ → ℕ → ℕ → Type 0
+InRange s a p q f g =
+    (1 ≤ s) × ((s ≤ 128) × ((1 ≤ a) × ((a ≤ 16) × ((p ≤ 6) × ((1 ≤ q) × ((q ≤ 32) × ((f < s) × (g < q))))))))
+
+pub range-iff : (s a p q f g : ℕ) → (in-range s a p q f g ≡ true) ↔ InRange s a p q f g
+range-iff s a p q f g =
+    and-iff (leb-iff 1 s)
+    (and-iff (leb-iff s 128)
+    (and-iff (leb-iff 1 a)
+    (and-iff (leb-iff a 16)
+    (and-iff (leb-iff p 6) (and-iff (leb-iff 1 q) (and-iff (leb-iff q 32) (and-iff (ltb-iff f s) (ltb-iff g q))))))))
+
 pub counts-iff : (j : Job) → (counts j ≡ true)
-    ↔ ((1 ≤ j .states) × ((j .states ≤ 128)
-    × ((1 ≤ j .actions) × ((j .actions ≤ 16)
-    × ((j .propositions ≤ 6)
-    × ((1 ≤ j .goals) × ((j .goals ≤ 32)
-    × ((j .first < j .states) × (j .first-goal < j .goals)))))))))
-counts-iff j =
-    and-iff (leb-iff 1 (j .states))
-    (and-iff (leb-iff (j .states) 128)
-    (and-iff (leb-iff 1 (j .actions))
-    (and-iff (leb-iff (j .actions) 16)
-    (and-iff (leb-iff (j .propositions) 6)
-    (and-iff (leb-iff 1 (j .goals))
-    (and-iff (leb-iff (j .goals) 32)
-    (and-iff (ltb-iff (j .first) (j .states)) (ltb-iff (j .first-goal) (j .goals)))))))))
+    ↔ InRange (j .states) (j .actions) (j .propositions) (j .goals) (j .first) (j .first-goal)
+counts-iff j = range-iff (j .states) (j .actions) (j .propositions) (j .goals) (j .first) (j .first-goal)
 
 pub labels-iff : (b : List ℕ) → (labels b ≡ true)
     ↔ ((size b 1 ≡ said b .states) × ((s : ℕ) → s < said b .states → said b .label s < width b))

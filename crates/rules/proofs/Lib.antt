@@ -8,6 +8,7 @@ pub mod Hopes
 pub mod Right
 pub mod Bounds
 pub mod Following
+pub mod Demands
 pub mod Rows
 pub mod Kept
 pub mod Arenas

@@ -5,10 +5,10 @@ use mathlib.Core.Logic.{_⊎_, inl, inr, _↔_}
 use mathlib.Core.Path.{_≡_, refl, sym, subst}
 use native.Mathlib.Nat.{le-of-suc-le-suc}
 use native.Mathlib.Omega.{arith}
-use Rattle.rules.proofs.Search.{clash, least-unique, least-map, has-lowest, lowest, lowest-found, lowest-passes, any-true, some, sure, some-found, some-true, sure-at, sure-true}
+use Rattle.rules.proofs.Search.{clash, if-not-true, not-yet, least-unique, least-map, has-lowest, lowest, lowest-found, lowest-passes, any-true, some, sure, some-found, some-true, sure-at, sure-true}
 use Rattle.rules.specs.declared.entry.Entry.{Entry}
-use Rattle.rules.specs.Game.{Arena, Inside, Lawful, Winning, Pending, HopesIn, Sure, Hopeful, Right, lost, met, wins, hopes, Least, says}
-use Rattle.rules.proofs.Rounds.{size, won, hoped, win, hope, win-mono, win-into, hope-mono, hope-into, hope-down}
+use Rattle.rules.specs.Game.{Arena, Inside, Unmet, Lawful, Winning, Pending, HopesIn, Sure, Hopeful, Right, lost, met, wins, hopes, Least, says}
+use Rattle.rules.proofs.Rounds.{size, won, hoped, win, hope, win-accepted, win-mono, win-into, hope-mono, hope-into, hope-down}
 use Rattle.rules.proofs.Values.{wins-iff, winning-iff, win-winning, accepted-winning}
 use Rattle.rules.proofs.Hopes.{hopes-possible, possible-iff, hopes-iff, wins-winning}
 
@@ -54,6 +54,40 @@ module _ (G : Arena) (L : Lawful G) where
 
   -- ---- there is an entry
 
+  -- where the goal is first forced within n + 1 moves
+  pub right-wins : (p : G .Place) (n : ℕ) → Least (λ k. win G k p ≡ true) (suc n)
+      → Right G p (says 2 (lowest (λ a. sure (win G n) (G .leads p a)) (G .actions)) (suc n))
+  right-wins p n l =
+      let j = win-into G L n p l in
+      let o = j .1 in
+      let u : Unmet G p = if-not-true _ (λ y. clash (win-accepted G n p y) (not-yet (λ k. win G k p) n l)) in
+      let a = lowest-found (λ a. sure (win G n) (G .leads p a)) (G .actions)
+      (any-true _ _ (j .0) (L .counted p (o .0) (j .0) (o .1)) (sure-true _ _ o (j .2))) in
+      wins u (wins-iff G L (suc n) p .1 l) (least-map (λ a. (sure-iff p n a .1, sure-iff p n a .0)) (a .1))
+
+  -- where it is first hoped for by n + 1 moves
+  pub pending-at : (p : G .Place) → Inside G p → (n : ℕ) → Least (λ k. hoped G k p ≡ true) (suc n) → Pending G p
+  unfolding hope
+  pending-at p i n l =
+      (λ w. clash (hope-mono G (won G) 0 n p zero-le (winning-iff G L p i .0 w)) (not-yet (λ k. hoped G k p) n l), hopes-possible G L (suc n) p (l .0))
+
+  pub right-hopes : (p : G .Place) → Inside G p → (n : ℕ) → Least (λ k. hoped G k p ≡ true) (suc n)
+      → Right G p (says 1 (lowest (λ a. some (hoped G n) (G .leads p a)) (G .actions)) (suc n))
+  right-hopes p i n l =
+      let j = hope-into G (won G) n p l in
+      let a = lowest-found (λ a. some (hoped G n) (G .leads p a)) (G .actions)
+      (any-true _ _ (j .0) (L .counted p (j .1) (j .0) (j .2)) (some-true _ _ (j .1) (j .2) (j .3))) in
+      hopes (pending-at p i n l) (hopes-iff G L (suc n) p i .1 l) (least-map (λ a. (hopeful-iff p i n l a .1, hopeful-iff p i n l a .0)) (a .1))
+
+  -- where it is never hoped for
+  pub right-loses : (p : G .Place) → Inside G p → hoped G (size G) p ≡ false → Right G p (says 0 255 0)
+  unfolding hope
+  right-loses p i h =
+      lost (
+        λ v. clash (hope-mono G (won G) 0 (size G) p zero-le (winning-iff G L p i .0 v)) h,
+        λ q. clash (possible-iff G L p i .0 q) h,
+      )
+
   pub by-rounds-right : (p : G .Place) → Inside G p → Right G p (by-rounds G p)
   unfolding by-rounds win hope
   by-rounds-right p i = go (G .accepted p) refl (won G p) refl (hoped G (size G) p) refl
@@ -64,20 +98,13 @@ module _ (G : Arena) (L : Lawful G) where
         where
           winning : (n : ℕ) → Least (λ k. win G k p ≡ true) n → Right G p (says 2 (lowest (λ a. sure (win G (pred n)) (G .leads p a)) (G .actions)) n)
           winning zero l = absurd (clash (l .0) u)
-          winning (suc n) l =
-              let j = win-into G L n p l in
-              let o = j .1 in
-              let a = lowest-found (λ a. sure (win G n) (G .leads p a)) (G .actions) (any-true _ _ (j .0) (L .counted p (o .0) (j .0) (o .1)) (sure-true _ _ o (j .2))) in
-              wins u (wins-iff G L (suc n) p .1 l) (least-map (λ a. (sure-iff p n a .1, sure-iff p n a .0)) (a .1))
+          winning (suc n) l = right-wins p n l
       go false u false w true h = rw (u, w, h, by-rounds) (pending (lowest (λ k. hoped G k p) (suc (size G))) (lowest-passes (λ k. hoped G k p) (size G) h))
         where
           pending : (n : ℕ) → Least (λ k. hoped G k p ≡ true) n → Right G p (says 1 (lowest (λ a. some (hoped G (pred n)) (G .leads p a)) (G .actions)) n)
           pending zero l = absurd (clash (l .0) w)
-          pending (suc n) l =
-              let j = hope-into G (won G) n p l in
-              let a = lowest-found (λ a. some (hoped G n) (G .leads p a)) (G .actions) (any-true _ _ (j .0) (L .counted p (j .1) (j .0) (j .2)) (some-true _ _ (j .1) (j .2) (j .3))) in
-              hopes (λ v. clash (winning-iff G L p i .0 v) w, hopes-possible G L (size G) p h) (hopes-iff G L (suc n) p i .1 l) (least-map (λ a. (hopeful-iff p i n l a .1, hopeful-iff p i n l a .0)) (a .1))
-      go false u false w false h = rw (u, w, h, by-rounds) (lost (λ v. clash (winning-iff G L p i .0 v) w, λ q. clash (possible-iff G L p i .0 q) h))
+          pending (suc n) l = right-hopes p i n l
+      go false u false w false h = rw (u, w, h, by-rounds) (right-loses p i h)
 
   pub right-exists : (p : G .Place) → Inside G p → (e : Entry) × Right G p e
   right-exists p i = (by-rounds G p, by-rounds-right p i)

@@ -2,7 +2,7 @@
 use Prim.Native.Nat.{ℕ, zero, suc, _+_, _≤_, _<_}
 use mathlib.Core.Bool.{Bool, true, false, _&&_, _||_, false≢true}
 use mathlib.Core.Logic.{_⊎_, inl, inr, ⊎-elim, _↔_, Iff·rfl, Iff·trans}
-use mathlib.Core.Path.{_≡_, refl}
+use mathlib.Core.Path.{_≡_, refl, sym, ap₂}
 use native.Mathlib.Nat.{eq-or-lt-of-le, le-of-suc-le-suc}
 use native.Mathlib.Numerals.{add-one}
 use native.Mathlib.Omega.{arith}
@@ -15,6 +15,11 @@ use Rattle.rules.specs.declared.place.Move.{Move}
 use Rattle.rules.proofs.Search.{clash, if-not-true}
 
 -- ---- two tests
+
+-- tests that pass together are the same
+pub same-test : {x y : Bool} → (x ≡ true → y ≡ true) → (y ≡ true → x ≡ true) → x ≡ y
+same-test {x = true} f g = sym (f refl)
+same-test {x = false} {y} f g = sym (if-not-true y (λ e. false≢true (g e)))
 
 pub and-iff : {x y : Bool} {A B : Type 0} → (x ≡ true) ↔ A → (y ≡ true) ↔ B → ((x && y) ≡ true) ↔ (A × B)
 and-iff {x = true} p q = (λ e. (p .0 refl, q .0 e), λ t. q .1 (t .1))
@@ -74,6 +79,11 @@ some-more f k e h = rw (add-one k, e) h
 
 pub some-stops : (f : ℕ → Bool) (n k : ℕ) → k < n → f k ≡ true → some-below n f ≡ true
 some-stops f n k h e = some-iff f (λ i. Iff·rfl) n .1 (k, h, e)
+
+-- two tests that say the same of each number
+pub every-same : (f g : ℕ → Bool) → ((k : ℕ) → f k ≡ g k) → (n : ℕ) → every-below n f ≡ every-below n g
+every-same f g same zero = refl
+every-same f g same (suc n) = ap₂ _&&_ (every-same f g same n) (same n)
 
 -- two things that hold of each number below n
 pub all-and : {A B : ℕ → Type 0} (n : ℕ) → ((k : ℕ) → k < n → A k × B k) ↔ (((k : ℕ) → k < n → A k) × ((k : ℕ) → k < n → B k))

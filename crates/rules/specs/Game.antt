@@ -5,6 +5,7 @@ use mathlib.Core.Bool.{Bool, true, false, cond}
 use mathlib.Core.List.{List, List·Memᴰ}
 use mathlib.Core.Logic.{_⊎_}
 use mathlib.Core.Path.{_≡_}
+use lib.Dec.{eqb}
 use Rattle.rules.specs.declared.entry.Entry.{Entry}
 
 -- The places that count, how many actions there are, where an action may lead (nowhere: it is not open), and where the goal is met.
@@ -83,6 +84,10 @@ module _ (G : Arena) where
   -- each outcome that is met on the way is a listed one
   abbrev pub Obeys : Way → (ℕ → G .Place) → Play (G .Place) → Type 0
   Obeys σ o h = (n a : ℕ) → Unmet (last (run σ o h n)) → σ .choose (run σ o h n) ≡ act a → Listed (last (run σ o h n)) a (o n)
+
+  -- σ follows the entries e: it takes the action that they name, and stops where they name none (255)
+  abbrev pub Follows : (G .Place → Entry) → Way → Type 0
+  Follows e σ = (h : Play (G .Place)) → Inside (last h) → σ .choose h ≡ cond (eqb (e (last h) .action) 255) stop (act (e (last h) .action))
 
   -- by σ the goal is met within n moves against every sequence of listed outcomes
   abbrev pub Forces : Way → G .Place → ℕ → Type 0

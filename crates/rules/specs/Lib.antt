@@ -7,4 +7,5 @@ pub mod Keeps
 pub mod Answers
 pub mod Plan
 pub mod Calls
+pub mod Demands
 pub mod Examples
