@@ -1,0 +1,115 @@
+-- What a laid-out job says of its bodies: where each lies in the bytes, how long it is, and what its bytes and records are.
+use Prim.Native.Nat.{ℕ, zero, suc, _+_, _-_, _*_, _/_, _^_, _≤_}
+use mathlib.Core.Bool.{Bool, true}
+use mathlib.Core.List.{List}
+use mathlib.Core.Logic.{_↔_}
+use mathlib.Core.Path.{_≡_, refl, ap, _∙_}
+use native.Mathlib.Nat.{add-assoc, mul-le-mul}
+use native.Mathlib.Numerals.{add-one}
+use native.Mathlib.Omega.{arith}
+use lib.Dec.{leb, ltb, leb·suc-suc, eqb·suc-zero}
+use lib.ListN.{length, getD}
+use lib.Pow.{pow-mono}
+use Rattle.rules.specs.Job.{every-below}
+use Rattle.rules.specs.Bytes.{offset, size, record-at, rows, mark, said, contents, good}
+use Rattle.rules.specs.declared.place.Move.{Move}
+use Rattle.rules.proofs.Kept.{InRange, contents-iff, range-iff}
+use Rattle.rules.proofs.Tests.{every-same}
+use Rattle.job.specs.Layout.{layout, Laid, in-ranges, good-after}
+use Rattle.job.specs.declared.layout.Layout.{Layout}
+
+-- byte k from a place on lies below the limit
+abbrev pub below : List ℕ → ℕ → ℕ → ℕ → Bool
+below b at limit k = ltb (getD b (at + k) 0) limit
+
+-- ---- contents in order
+
+-- the bytes of Counts lie in the job
+pub counts-inside : (b : List ℕ) → contents b ≡ true → 22 ≤ length b
+counts-inside b e = let h = contents-iff b .0 e in omega arith
+
+-- the layout by the offsets alone: Counts begins at 16, and Moves ends where Goal begins
+pub layout-is : (b : List ℕ) → contents b ≡ true
+    → layout b
+    ≡ record {
+      states = getD b 16 0;
+      actions = getD b 17 0;
+      propositions = getD b 18 0;
+      goals = getD b 19 0;
+      first = getD b 20 0;
+      «first_goal» = getD b 21 0;
+      records = (offset b 3 - offset b 2) / 3;
+      «labels_at» = offset b 1;
+      «moves_at» = offset b 2;
+      «goal_at» = offset b 3;
+    }
+layout-is b e =
+    let h = contents-iff b .0 e in
+    let moves-long : size b 2 ≡ offset b 3 - offset b 2 = omega arith in
+    rw (h .0, moves-long)
+
+-- each body after Counts begins where the one before it ends, and Goal ends with the job
+pub record Bodies (b : List ℕ) (l : Layout) : Type 0 where
+  pub labels-long : l .«moves_at» ≡ l .«labels_at» + size b 1
+  pub moves-long : l .«goal_at» ≡ l .«moves_at» + size b 2
+  pub goal-long : length b ≡ l .«goal_at» + size b 3
+  pub states-are : l .states ≡ said b .states
+  pub goals-are : l .goals ≡ said b .goals
+  pub records-are : l .records ≡ said b .records
+  pub rows-are : l .goals * 2 ^ l .propositions ≡ rows b
+
+pub bodies : (b : List ℕ) (l : Layout) → Laid b l → Bodies b l
+bodies b l h =
+    let t = contents-iff b .0 (h .in-order) in
+    rw (h .is-layout) (record {
+      labels-long = omega arith;
+      moves-long = omega arith;
+      goal-long = omega arith;
+      states-are = refl;
+      goals-are = refl;
+      records-are = refl;
+      rows-are = refl;
+    })
+
+-- ---- counts
+
+pub ranges-iff : (l : Layout) → (in-ranges l ≡ true)
+    ↔ InRange (l .states) (l .actions) (l .propositions) (l .goals) (l .first) (l .«first_goal»)
+ranges-iff l = range-iff (l .states) (l .actions) (l .propositions) (l .goals) (l .first) (l .«first_goal»)
+
+-- in their ranges, there are few rows
+pub rows-few : (l : Layout) → in-ranges l ≡ true → l .goals * 2 ^ l .propositions ≤ 2048
+rows-few l e =
+    let h = ranges-iff l .0 e in
+    let few-goals : l .goals ≤ 32 = omega arith in
+    let few-propositions : l .propositions ≤ 6 = omega arith in
+    mul-le-mul few-goals (pow-mono few-propositions)
+
+-- ---- records
+
+-- the record before record k, where there is one
+abbrev pub previous : (ℕ → Move) → ℕ → Move
+previous f zero = record { state = 0; action = 0; outcome = 0 }
+previous f (suc k) = f k
+
+-- record k is good after the one before it where it is good among all records
+pub good-is : (b : List ℕ) (l : Layout) → l ≡ layout b → (k : ℕ)
+    → good-after l k (previous (said b .move) k) (record-at b (l .«moves_at» + 3 * k)) ≡ good (said b) k
+good-is b l e zero = rw e
+good-is b l e (suc k) = rw (e, eqb·suc-zero k)
+
+-- record k is the one before the next
+pub previous-is : (b : List ℕ) (l : Layout) → l ≡ layout b → (k : ℕ)
+    → record-at b (l .«moves_at» + 3 * k) ≡ previous (said b .move) (k + 1)
+previous-is b l e k = rw (add-one k, e)
+
+-- ---- marks
+
+-- the marks after the rows are 0 or 1
+pub marks-are : (b : List ℕ) (l : Layout) → l ≡ layout b
+    → every-below (l .goals) (below b (l .«goal_at» + l .goals * 2 ^ l .propositions) 2)
+    ≡ every-below (said b .goals) (λ q. leb (mark b q) 1)
+marks-are b l e = rw e (every-same (below b (offset b 3 + rows b) 2) (λ q. leb (mark b q) 1) same (said b .goals))
+  where
+    same : (q : ℕ) → below b (offset b 3 + rows b) 2 q ≡ leb (mark b q) 1
+    same q = leb·suc-suc (getD b (offset b 3 + rows b + q) 0) 1 ∙ ap (λ (i : ℕ). leb (getD b i 0) 1) (add-assoc (offset b 3) (rows b) q)

@@ -1,0 +1,5 @@
+-- The laws that belong to no one function.
+pub mod Laying
+pub mod Readings
+pub mod Asking
+pub mod Offsets

@@ -1,0 +1,44 @@
+-- Where asking reads: each offset lies inside the job, and what stands there is what the job says.
+use Prim.Native.Nat.{ℕ, _+_, _*_, _^_, _≤_, _<_}
+use mathlib.Core.List.{List}
+use mathlib.Core.Path.{_≡_}
+use native.Mathlib.Omega.{arith}
+use lib.Dec.{eqb}
+use lib.ListN.{length, getD}
+use Rattle.rules.specs.Job.{entered}
+use Rattle.rules.specs.Bytes.{record-at, said}
+use Rattle.rules.specs.declared.place.Move.{Move}
+use Rattle.rules.proofs.Kept as kept
+use Rattle.job.specs.Layout.{Fit}
+use Rattle.job.specs.declared.layout.Layout.{Layout}
+use Rattle.job.proofs.Asking.{states-said, goals-said, records-said}
+
+module _ {b : List ℕ} {l : Layout} (f : Fit b l) where
+  pub label-inside : {s : ℕ} → s < l .states → l .«labels_at» + s < length b
+  label-inside h = rw (f .is-layout) (omega (arith, kept.labels-end (f .keeps), states-said f))
+
+  pub label-value : (s : ℕ) {r : ℕ} → r ≡ getD b (l .«labels_at» + s) 0 → r ≡ said b .label s
+  label-value s e = rw (f .is-layout) at e
+
+  -- w is how many labels there are, and x the label of state t
+  module _ {q t w x : ℕ} (h : q < l .goals) (g : t < l .states) (e : w ≡ 2 ^ l .propositions) (d : x ≡ said b .label t) where
+    pub next-inside : l .«goal_at» + (q * w + x) < length b
+    next-inside =
+        rw (e, d, f .is-layout)
+        (kept.next-inside (f .keeps) (rw (goals-said f) at h) (f .keeps .label-below t (rw (states-said f) at g)))
+
+    pub next-value : {r : ℕ} → r ≡ getD b (l .«goal_at» + (q * w + x)) 0 → r ≡ entered (said b) q t .goal
+    next-value y = rw (e, d, f .is-layout) at y
+
+  module _ {q w : ℕ} (h : q < l .goals) (e : w ≡ 2 ^ l .propositions) where
+    pub mark-inside : l .«goal_at» + (l .goals * w + q) < length b
+    mark-inside = rw (e, f .is-layout) (omega (arith, kept.goal-end (f .keeps), goals-said f))
+
+    pub mark-value : {r : ℕ} → r ≡ getD b (l .«goal_at» + (l .goals * w + q)) 0 → eqb r 1 ≡ said b .final q
+    mark-value y = let z = rw (e, f .is-layout) at y in rw z
+
+  pub move-inside : {k : ℕ} → k < l .records → l .«moves_at» + 3 * k + 3 ≤ length b
+  move-inside h = rw (f .is-layout) (omega (arith, kept.moves-end (f .keeps), records-said f))
+
+  pub move-value : (k : ℕ) {m : Move} → m ≡ record-at b (l .«moves_at» + 3 * k) → m ≡ said b .move k
+  move-value k e = rw (f .is-layout) at e

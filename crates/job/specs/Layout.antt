@@ -1,0 +1,45 @@
+-- The layout that a job's bytes say, and what reading and asking rely on.
+use Prim.Native.Nat.{ℕ, _≤_}
+use mathlib.Core.Bool.{Bool, true, cond, _&&_}
+use mathlib.Core.List.{List}
+use mathlib.Core.Path.{_≡_}
+use lib.Dec.{eqb}
+use lib.ListN.{length}
+use Rattle.rules.specs.Bytes.{offset, said, contents, in-range, within, before}
+use Rattle.rules.specs.Keeps.{Keeps}
+use Rattle.rules.specs.declared.place.Move.{Move}
+use Rattle.job.specs.declared.layout.Layout.{Layout}
+
+abbrev pub layout : List ℕ → Layout
+layout b =
+    record {
+      states = said b .states;
+      actions = said b .actions;
+      propositions = said b .propositions;
+      goals = said b .goals;
+      first = said b .first;
+      «first_goal» = said b .first-goal;
+      records = said b .records;
+      «labels_at» = offset b 1;
+      «moves_at» = offset b 2;
+      «goal_at» = offset b 3;
+    }
+
+-- every count and first number of the layout is in its range
+abbrev pub in-ranges : Layout → Bool
+in-ranges l = in-range (l .states) (l .actions) (l .propositions) (l .goals) (l .first) (l .«first_goal»)
+
+-- record k, which is m, is good after the one before it, which is last
+abbrev pub good-after : Layout → ℕ → Move → Move → Bool
+good-after l k last m = within (l .states) (l .actions) m && cond (eqb k 0) true (before last m)
+
+-- the bytes are long enough for contents, which are in order, and l is what they say
+pub record Laid (b : List ℕ) (l : Layout) : Type 0 where
+  pub long : 16 ≤ length b
+  pub in-order : contents b ≡ true
+  pub is-layout : l ≡ layout b
+
+-- the bytes keep the rules, and l is what they say
+pub record Fit (b : List ℕ) (l : Layout) : Type 0 where
+  pub keeps : Keeps b
+  pub is-layout : l ≡ layout b

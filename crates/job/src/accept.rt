@@ -1,0 +1,220 @@
+// Reading a job: each fault of the table from 1 to 6 in its order, one pass over each body.
+ghost use mathlib.Core.Path.{_≡_};
+ghost use mathlib.Core.Bool.{true};
+ghost use Prim.Native.Nat.{_≤_};
+ghost use lib.ListN.{length};
+ghost use Rattle.rules.specs.Job.{every-below};
+ghost use Rattle.rules.specs.Bytes.{contents, labels, moves, goal, good, said};
+ghost use Rattle.rules.specs.Bytes.{within};
+ghost use Rattle.job.specs.Layout.{layout, Laid, in-ranges, good-after};
+ghost use Rattle.job.specs.Reading.{reading, reading-figures};
+use crate::body::byte_at;
+use crate::body::bytes_below;
+use crate::body::comes_before;
+use crate::body::labels_below;
+use crate::body::labels_of;
+use crate::body::record_at;
+use crate::body::word_at;
+use crate::layout::Layout;
+use crate::layout::Reading;
+use rules::answer::Refusal;
+use rules::place::Move;
+
+// Whether the bodies follow one another from 16 on to the job's end, and Counts is 6 long.
+fn contents_fit(job: &[u8]) -> bool
+    requires { ⌜ 16 ≤ length (now job) ⌝ }
+    ensures { λ r. ⌜ r ≡ contents (now (job .entry)) ⌝ }
+{
+    let counts_at = word_at(job, 0);
+    let counts_long = word_at(job, 2);
+    if counts_at != 16 {
+        return false;
+    }
+    let labels_at = word_at(job, 4);
+    if labels_at != counts_at + counts_long {
+        return false;
+    }
+    let moves_at = word_at(job, 8);
+    if moves_at != labels_at + word_at(job, 6) {
+        return false;
+    }
+    let goal_at = word_at(job, 12);
+    if goal_at != moves_at + word_at(job, 10) {
+        return false;
+    }
+    if job.len() != goal_at + word_at(job, 14) {
+        return false;
+    }
+    counts_long == 6
+}
+
+// Where the bodies lie and what the counts are.
+fn layout_of(job: &[u8]) -> Layout
+    requires { ⌜ 16 ≤ length (now job) ⌝ }
+    requires { ⌜ contents (now job) ≡ true ⌝ }
+    ensures { λ r. ⌜ r ≡ layout (now (job .entry)) ⌝ }
+{
+    let moves_at = word_at(job, 8);
+    let goal_at = word_at(job, 12);
+    Layout {
+        states: byte_at(job, 16),
+        actions: job[17],
+        propositions: job[18],
+        goals: byte_at(job, 19),
+        first: byte_at(job, 20),
+        first_goal: byte_at(job, 21),
+        records: (goal_at - moves_at) / 3,
+        labels_at: word_at(job, 4),
+        moves_at,
+        goal_at,
+    }
+}
+
+// Whether each count and first number is in its range.
+fn counts_fit(l: Layout) -> bool
+    ensures { λ r. ⌜ r ≡ in-ranges l ⌝ }
+{
+    if l.states < 1 {
+        return false;
+    }
+    if 128 < l.states {
+        return false;
+    }
+    if l.actions < 1 {
+        return false;
+    }
+    if 16 < l.actions {
+        return false;
+    }
+    if 6 < l.propositions {
+        return false;
+    }
+    if l.goals < 1 {
+        return false;
+    }
+    if 32 < l.goals {
+        return false;
+    }
+    if l.states <= l.first {
+        return false;
+    }
+    l.first_goal < l.goals
+}
+
+// Whether there is a label for each state, and each lies below 2^P.
+fn labels_fit(job: &[u8], l: Layout) -> bool
+    requires { ⌜ Laid (now job) l ⌝ }
+    ensures { λ r. ⌜ r ≡ labels (now (job .entry)) ⌝ }
+{
+    if l.moves_at - l.labels_at != l.states {
+        return false;
+    }
+    labels_below(job, l.labels_at, l.states, l.propositions)
+}
+
+// Whether each field of a record is in its range.
+fn fields_fit(l: Layout, m: Move) -> bool
+    ensures { λ r. ⌜ r ≡ within (l .states) (l .actions) m ⌝ }
+{
+    if l.states <= m.state as usize {
+        return false;
+    }
+    if l.actions <= m.action {
+        return false;
+    }
+    (m.outcome as usize) < l.states
+}
+
+// Whether record k is good, by its fields and then by its order after the one before it.
+fn record_fits(l: Layout, k: usize, last: Move, m: Move) -> bool
+    ensures { λ r. ⌜ r ≡ good-after l k last m ⌝ }
+{
+    if !fields_fit(l, m) {
+        return false;
+    }
+    if k == 0 {
+        return true;
+    }
+    comes_before(last, m)
+}
+
+// Whether every record is good.
+fn records_fit(job: &[u8], l: Layout) -> bool
+    requires { ⌜ Laid (now job) l ⌝ }
+    ensures { λ r. ⌜ r ≡ every-below (l .records) (good (said (now (job .entry)))) ⌝ }
+{
+    let n = l.records;
+    let at = l.moves_at;
+    let mut last = Move {
+        state: 0,
+        action: 0,
+        outcome: 0,
+    };
+    let mut k: usize = 0;
+    while k < n {
+        let m = record_at(job, at + 3 * k);
+        if !record_fits(l, k, last, m) {
+            return false;
+        }
+        last = m;
+        k += 1;
+    }
+    true
+}
+
+// Whether Moves has whole records, not too many, and each is good.
+fn moves_fit(job: &[u8], l: Layout) -> bool
+    requires { ⌜ Laid (now job) l ⌝ }
+    ensures { λ r. ⌜ r ≡ moves (now (job .entry)) ⌝ }
+{
+    let size = l.goal_at - l.moves_at;
+    if size % 3 != 0 {
+        return false;
+    }
+    if 12288 < size {
+        return false;
+    }
+    records_fit(job, l)
+}
+
+// Whether Goal has its length, each next goal state is one, and each mark is 0 or 1.
+fn goal_fits(job: &[u8], l: Layout) -> bool
+    requires { ⌜ Laid (now job) l ⌝ }
+    requires { ⌜ in-ranges l ≡ true ⌝ }
+    ensures { λ r. ⌜ r ≡ goal (now (job .entry)) ⌝ }
+{
+    let rows = l.goals * labels_of(l.propositions);
+    if job.len() - l.goal_at != rows + l.goals {
+        return false;
+    }
+    if !bytes_below(job, l.goal_at, rows, l.goals) {
+        return false;
+    }
+    bytes_below(job, l.goal_at + rows, l.goals, 2)
+}
+
+// The job's layout and counts, or the first fault of its bytes.
+pub fn read(job: &[u8]) -> Reading
+    ensures { λ r. ⌜ reading-figures r ≡ reading (now (job .entry)) ⌝ }
+{
+    if job.len() < 16 {
+        return Reading::Refused(Refusal::Short);
+    }
+    if !contents_fit(job) {
+        return Reading::Refused(Refusal::Contents);
+    }
+    let l = layout_of(job);
+    if !counts_fit(l) {
+        return Reading::Refused(Refusal::Counts);
+    }
+    if !labels_fit(job, l) {
+        return Reading::Refused(Refusal::Labels);
+    }
+    if !moves_fit(job, l) {
+        return Reading::Refused(Refusal::Moves);
+    }
+    if !goal_fits(job, l) {
+        return Reading::Refused(Refusal::Goal);
+    }
+    Reading::Job(l)
+}

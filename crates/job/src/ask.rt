@@ -1,0 +1,103 @@
+// What a job that was read says of a state, a goal state or a record. No other crate reads a byte of a job at an offset.
+ghost use mathlib.Core.Path.{_≡_};
+ghost use Prim.Native.Nat.{_<_};
+ghost use Rattle.rules.specs.Job.{entered, is-record};
+ghost use Rattle.rules.specs.Bytes.{said};
+ghost use Rattle.job.specs.Layout.{Fit};
+ghost use Rattle.job.specs.Found.{FoundOf};
+use crate::body::byte_at;
+use crate::body::labels_of;
+use crate::body::record_at;
+use crate::layout::Layout;
+use rules::place::Move;
+use rules::place::Place;
+
+// The label of state s.
+pub fn label(job: &[u8], l: Layout, s: usize) -> usize
+    requires { ⌜ Fit (now job) l ⌝ }
+    requires { ⌜ s < l .states ⌝ }
+    ensures { λ r. ⌜ r ≡ said (now (job .entry)) .label s ⌝ }
+{
+    byte_at(job, l.labels_at + s)
+}
+
+// The goal state after entering state t from goal state q.
+pub fn next_goal(job: &[u8], l: Layout, q: usize, t: usize) -> usize
+    requires { ⌜ Fit (now job) l ⌝ }
+    requires { ⌜ q < l .goals ⌝ }
+    requires { ⌜ t < l .states ⌝ }
+    ensures { λ r. ⌜ r ≡ entered (said (now (job .entry))) q t .goal ⌝ }
+{
+    let x = label(job, l, t);
+    let row = q * labels_of(l.propositions);
+    byte_at(job, l.goal_at + (row + x))
+}
+
+// The place that is entered with state t from goal state q.
+pub fn place_entered(job: &[u8], l: Layout, q: usize, t: usize) -> Place
+    requires { ⌜ Fit (now job) l ⌝ }
+    requires { ⌜ q < l .goals ⌝ }
+    requires { ⌜ t < l .states ⌝ }
+    ensures { λ r. ⌜ r ≡ entered (said (now (job .entry))) q t ⌝ }
+{
+    let g = next_goal(job, l, q, t);
+    Place {
+        state: t as u16,
+        goal: g as u16,
+    }
+}
+
+// Whether goal state q is final.
+pub fn is_final(job: &[u8], l: Layout, q: usize) -> bool
+    requires { ⌜ Fit (now job) l ⌝ }
+    requires { ⌜ q < l .goals ⌝ }
+    ensures { λ r. ⌜ r ≡ said (now (job .entry)) .final q ⌝ }
+{
+    let rows = l.goals * labels_of(l.propositions);
+    byte_at(job, l.goal_at + (rows + q)) == 1
+}
+
+// Record k.
+pub fn move_at(job: &[u8], l: Layout, k: usize) -> Move
+    requires { ⌜ Fit (now job) l ⌝ }
+    requires { ⌜ k < l .records ⌝ }
+    ensures { λ r. ⌜ r ≡ said (now (job .entry)) .move k ⌝ }
+{
+    record_at(job, l.moves_at + 3 * k)
+}
+
+// What looking for a record answers: its number, or that there is none.
+pub enum Found {
+    At(usize),
+    Nothing,
+}
+
+// Whether a record has this state, action and outcome.
+fn is_move(m: Move, s: usize, a: usize, t: usize) -> bool
+    ensures { λ r. ⌜ r ≡ is-record m s a t ⌝ }
+{
+    if m.state as usize != s {
+        return false;
+    }
+    if m.action as usize != a {
+        return false;
+    }
+    m.outcome as usize == t
+}
+
+// The record with this state, action and outcome: there is at most one.
+pub fn find(job: &[u8], l: Layout, s: usize, a: usize, t: usize) -> Found
+    requires { ⌜ Fit (now job) l ⌝ }
+    ensures { λ r. ⌜ FoundOf (said (now (job .entry))) s a t r ⌝ }
+{
+    let n = l.records;
+    let mut k: usize = 0;
+    while k < n {
+        let m = move_at(job, l, k);
+        if is_move(m, s, a, t) {
+            return Found::At(k);
+        }
+        k += 1;
+    }
+    Found::Nothing
+}

@@ -1,0 +1,98 @@
+// The bytes of a body: a number of two bytes, a record, and bytes that all lie below a limit.
+ghost use mathlib.Core.Path.{_≡_};
+ghost use Prim.Native.Nat.{_+_, _*_, _^_, _≤_, _<_};
+ghost use lib.Dec.{ltb};
+ghost use lib.ListN.{length, getD};
+ghost use Rattle.rules.specs.Job.{every-below};
+ghost use Rattle.rules.specs.Bytes.{word, record-at, before};
+use rules::place::Move;
+
+fn wide(x: u8) -> u16
+    ensures { λ r. ⌜ r ≡ x ⌝ }
+{
+    x as u16
+}
+
+// The byte at a place of the job.
+pub fn byte_at(job: &[u8], at: usize) -> usize
+    requires { ⌜ at < length (now job) ⌝ }
+    ensures { λ r. ⌜ r ≡ getD (now (job .entry)) at 0 ⌝ }
+{
+    job[at] as usize
+}
+
+// The number of two bytes at a place of the job, low byte first.
+pub fn word_at(job: &[u8], at: usize) -> usize
+    requires { ⌜ at + 2 ≤ length (now job) ⌝ }
+    ensures { λ r. ⌜ r ≡ word (now (job .entry)) at ⌝ }
+{
+    byte_at(job, at) + 256 * byte_at(job, at + 1)
+}
+
+// The record at a place of the job.
+pub fn record_at(job: &[u8], at: usize) -> Move
+    requires { ⌜ at + 3 ≤ length (now job) ⌝ }
+    ensures { λ r. ⌜ r ≡ record-at (now (job .entry)) at ⌝ }
+{
+    Move {
+        state: wide(job[at]),
+        action: job[at + 1],
+        outcome: wide(job[at + 2]),
+    }
+}
+
+// Whether one record comes before another, compared field by field.
+pub fn comes_before(m: Move, n: Move) -> bool
+    ensures { λ r. ⌜ r ≡ before m n ⌝ }
+{
+    if m.state < n.state {
+        return true;
+    }
+    if m.state == n.state {
+        if m.action < n.action {
+            return true;
+        }
+        if m.action == n.action {
+            return m.outcome < n.outcome;
+        }
+    }
+    false
+}
+
+// How many labels there are of so many propositions.
+pub fn labels_of(propositions: u8) -> usize
+    requires { ⌜ propositions ≤ 6 ⌝ }
+    ensures { λ r. ⌜ r ≡ 2 ^ propositions ⌝ }
+{
+    1 << propositions
+}
+
+// Whether the n bytes from a place on all lie below the limit.
+pub fn bytes_below(job: &[u8], at: usize, n: usize, limit: usize) -> bool
+    requires { ⌜ at + n ≤ length (now job) ⌝ }
+    ensures { λ r. ⌜ r ≡ every-below n (λ i. ltb (getD (now (job .entry)) (at + i) 0) limit) ⌝ }
+{
+    let mut i: usize = 0;
+    while i < n {
+        if limit <= byte_at(job, at + i) {
+            return false;
+        }
+        i += 1;
+    }
+    true
+}
+
+// Whether the n labels from a place on all lie below 2^p, each judged bit by bit.
+pub fn labels_below(job: &[u8], at: usize, n: usize, p: u8) -> bool
+    requires { ⌜ at + n ≤ length (now job) ⌝ }
+    ensures { λ r. ⌜ r ≡ every-below n (λ i. ltb (getD (now (job .entry)) (at + i) 0) (2 ^ p)) ⌝ }
+{
+    let mut i: usize = 0;
+    while i < n {
+        if !rules::label::lies_below(job[at + i], p) {
+            return false;
+        }
+        i += 1;
+    }
+    true
+}
