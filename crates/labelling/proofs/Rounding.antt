@@ -1,0 +1,92 @@
+-- What one place adds to a round and to round 0, and what a round's functions hand on.
+use Prim.Native.Nat.{ℕ, _+_, _*_, _≤_, _<_}
+use mathlib.Core.Bool.{Bool, true, false, not, _&&_, and-false}
+use mathlib.Core.List.{List}
+use mathlib.Core.Path.{_≡_, refl, sym, ap, _∙_}
+use native.Mathlib.Nat.{add-mul, one-mul}
+use native.Mathlib.Omega.{arith}
+use borrow.Author.Tests.{lt-ltb}
+use lib.Arith.{digits-lt, digits-div, digits-mod}
+use lib.Dec.{ltb}
+use lib.ListN.{length}
+use Rattle.rules.specs.Sets.{member, Put}
+use Rattle.rules.specs.Game.{says}
+use Rattle.rules.specs.Job.{place, arena}
+use Rattle.rules.specs.Bytes.{said}
+use Rattle.rules.specs.Plan.{Wrote}
+use Rattle.rules.specs.declared.entry.Entry.{Entry}
+use Rattle.rules.specs.declared.actions.LowestAction.{LowestAction}
+use Rattle.job.specs.Layout.{Fit}
+use Rattle.job.specs.declared.layout.Layout.{Layout}
+use Rattle.job.proofs.Asking.{few-places, lawful}
+use Rattle.labelling.specs.declared.scan.Phase.{Phase}
+use Rattle.labelling.specs.declared.scan.Marks.{Marks}
+use Rattle.labelling.specs.Scan.{in-set, Scanned, LowestPassing, marked-for, wanted, phase-value}
+use Rattle.labelling.specs.Pass.{Pass}
+use Rattle.labelling.specs.Round.{Ready, adds, Passed, met-at, Begun}
+use Rattle.labelling.proofs.Passes.{pass-skip, pass-put, pass-write}
+use Rattle.labelling.proofs.Scanning.{LowestCounted, chosen, choice-any}
+
+-- ---- a round's functions, one after the other
+
+-- where the next state's places begin
+pub next-row : (s g : ℕ) → (s + 1) * g ≡ s * g + g
+next-row s g = add-mul s 1 g ∙ ap (λ (x : ℕ). s * g + x) (one-mul g)
+
+-- a pass leaves the set and the plan as long as they were
+pub ready-on : {b : List ℕ} {l : Layout} {s start end : ℕ} {gains writes : ℕ → Bool} {entries : ℕ → Entry} {lo hi : ℕ} {ws plan ws′ plan′ : List ℕ}
+    → Ready b l s start end ws plan → Pass gains writes entries lo hi ws plan ws′ plan′ → Ready b l s start end ws′ plan′
+ready-on r p =
+    record { fit = r .fit; state = r .state; range = r .range; words = p .as-many ∙ r .words; room = rw (p .as-long) (r .room) }
+
+-- ---- round 0: an accepted place, and one that is not
+
+module _ {b : List ℕ} {l : Layout} (f : Fit b l) {i v : ℕ} {ws plan plan1 : List ℕ} where
+  pub begun-met : {ws1 : List ℕ} → i < l .states * l .goals → met-at b l i ≡ true → Put ws i ws1
+      → v ≡ 2 → Wrote i (says v 255 0) plan plan1 → Begun b l i (i + 1) ws plan ws1 plan1
+  begun-met h m p e w = pass-put m refl (omega (arith, few-places f)) p (rw m (rw e at w))
+
+  pub begun-unmet : met-at b l i ≡ false → v ≡ 0 → Wrote i (says v 255 0) plan plan1 → Begun b l i (i + 1) ws plan ws plan1
+  begun-unmet m e w = pass-write m refl (rw m (rw e at w))
+
+-- ---- a round at one place
+
+module _ {b : List ℕ} {l : Layout} {s start end q : ℕ} {ws plan : List ℕ} (r : Ready b l s start end ws plan) (g : q < l .goals) where
+  -- its number, which a set has room for, and the plan for its entry
+  abbrev here : ℕ
+  here = s * l .goals + q
+
+  pub here-few : here < 4096
+  here-few = omega (arith, digits-lt (r .state) g, few-places (r .fit))
+
+  pub here-room : 4 * here + 4 ≤ length plan
+  here-room = omega (arith, digits-lt (r .state) g, r .room)
+
+  -- what was answered of it is whether the set has it
+  pub here-known : (old : List ℕ) {a t : Bool} → a ≡ (ltb here 4096 && member old here) → a ≡ t → member old here ≡ t
+  here-known old e d = sym (rw (lt-ltb here 4096 here-few) at e) ∙ d
+
+  module _ (v : Phase) (n : ℕ) (old : List ℕ) where
+    -- it is in the old set
+    pub passed-old : member old here ≡ true → Passed b l v n old here (here + 1) ws plan ws plan
+    passed-old m = pass-skip (rw m) (rw m)
+
+    -- what was chosen from the marks is the lowest action that the round looks for
+    lowest-here : {x : Marks} → Scanned (said b) (in-set (l .goals) old) (place s q) x → (d : LowestAction) → LowestPassing (marked-for v x) d
+        → LowestCounted (wanted v (arena (said b)) (in-set (l .goals) old) (place s q)) (said b .actions) d
+    lowest-here k d c = choice-any (lawful (r .fit)) (in-set (l .goals) old) (place s q) v d (chosen k v d c)
+
+    module _ {x : Marks} (k : Scanned (said b) (in-set (l .goals) old) (place s q) x) {d : LowestAction} (c : LowestPassing (marked-for v x) d) where
+      -- it has no such action; it is new and has one
+      pub passed-none : d ≡ LowestAction.Nothing → Passed b l v n old here (here + 1) ws plan ws plan
+      passed-none e =
+          let t = rw e at (lowest-here k d c) in
+          let z : adds b l v n old here ≡ false = rw (digits-div s g, digits-mod s g, t) (and-false (not (member old here))) in
+          pass-skip z z
+
+      pub passed-new : {a y : ℕ} {ws1 plan1 : List ℕ} → member old here ≡ false → d ≡ LowestAction.Is a
+          → Put ws here ws1 → y ≡ phase-value v → Wrote here (says y a n) plan plan1 → Passed b l v n old here (here + 1) ws plan ws1 plan1
+      passed-new m e p y w =
+          let t = rw e at (lowest-here k d c) in
+          let z : adds b l v n old here ≡ true = rw (m, digits-div s g, digits-mod s g) (t .0) in
+          pass-put z z here-few p (rw (digits-div s g, digits-mod s g, t .1, ← y) w)

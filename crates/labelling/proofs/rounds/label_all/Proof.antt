@@ -1,0 +1,44 @@
+-- `label_all` meets its contract: round 0, the rounds of winning, and the rounds of hope.
+use borrow.Author.Needs.{needs}
+use Rattle.labelling.proofs.Holding.{holds-begin}
+use Rattle.labelling.proofs.Settling.{labelled-over, labelled-both}
+use Rattle.labelling.proofs.rounds.label_all.Statement.{statement}
+use Rattle.labelling.proofs.rounds.label_all.Tie as tie
+
+begin-requires : tie.Need-begin-requires
+begin-requires c κs = search needs
+
+all-rounds-requires : tie.Need-all-rounds-requires
+all-rounds-requires c κs = search needs
+
+same-length : tie.Need-same-length
+same-length c = search needs
+
+returns : tie.Need-returns
+returns c =
+    let t = c .before .before .before .before .before .before .before .before .before .before .before .pre .0 in
+    labelled-over (t .keeps) (c .before .before .before .all-rounds .ensures _ _ _ (holds-begin t (c .before .before .before .before .before .before .before .begin .ensures))) (c .if1 .taken)
+
+all-rounds-requires-2 : tie.Need-all-rounds-requires-2
+all-rounds-requires-2 c κs = search needs
+
+same-length-2 : tie.Need-same-length-2
+same-length-2 c = search needs
+
+returns-2 : tie.Need-returns-2
+returns-2 c =
+    let t = c .before .before .before .before .before .before .before .before .before .before .before .before .before .before .before .before .pre .0 in
+    let w = c .before .before .before .before .before .before .before .before .all-rounds .ensures _ _ _ (holds-begin t (c .before .before .before .before .before .before .before .before .before .before .before .before .begin .ensures)) in
+    labelled-both (t .keeps) w (c .before .before .before .before .before .if1 .left) (c .before .before .all-rounds2 .ensures _ _ _ (w .holds))
+
+pub label-all-spec : {M : Type 1} → statement M
+label-all-spec =
+    tie.close
+    (tie.spec
+    begin-requires
+    all-rounds-requires
+    same-length
+    returns
+    all-rounds-requires-2
+    same-length-2
+    returns-2)

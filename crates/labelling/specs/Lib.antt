@@ -1,0 +1,4 @@
+pub mod Scan
+pub mod Pass
+pub mod Round
+pub mod Rounds

@@ -1,0 +1,50 @@
+// Planning: the job is read, every place is labelled, and the plan is written.
+ghost use mathlib.Core.Path.{_≡_};
+ghost use mathlib.Core.List.{_++_};
+ghost use Prim.Native.Nat.{_≤_};
+ghost use lib.ListN.{length, drop, replicate};
+ghost use Rattle.rules.specs.Calls.{Planning};
+ghost use Rattle.rules.specs.Answers.{planned-figure};
+ghost use Rattle.job.specs.Layout.{Fit};
+use job::layout::Layout;
+use job::layout::Reading;
+use rules::answer::Planned;
+use rules::answer::Refusal;
+
+// The first n bytes become 0.
+fn clear(plan: &mut [u8], n: usize)
+    requires { ⌜ n ≤ length (now plan) ⌝ }
+    ensures { λ _. ⌜ now (plan .exit) ≡ replicate n 0 ++ drop n (now (plan .entry)) ⌝ }
+{
+    let mut i: usize = 0;
+    while i < n {
+        plan[i] = 0;
+        i += 1;
+    }
+}
+
+// Plans a job that was read.
+fn plan_read(plan: &mut [u8], job: &[u8], l: Layout) -> Planned
+    requires { ⌜ Fit (now job) l ⌝ }
+    ensures { λ r. ⌜ Planning (now (job .entry)) (now (plan .entry)) (planned-figure r) (now (plan .exit)) ⌝ }
+{
+    let room = 4 * (l.states * l.goals);
+    if plan.len() < room {
+        return Planned::Refused(Refusal::Room);
+    }
+    if crate::rounds::label_all(plan, job, l) {
+        clear(plan, room);
+        return Planned::Refused(Refusal::Rounds);
+    }
+    Planned::Done
+}
+
+// Plans the job into the buffer, or says no and leaves it as it was.
+pub fn plan(job: &[u8], plan: &mut [u8]) -> Planned
+    ensures { λ r. ⌜ Planning (now (job .entry)) (now (plan .entry)) (planned-figure r) (now (plan .exit)) ⌝ }
+{
+    match job::accept::read(job) {
+        Reading::Refused(r) => Planned::Refused(r),
+        Reading::Job(l) => plan_read(plan, job, l),
+    }
+}

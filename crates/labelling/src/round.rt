@@ -1,0 +1,165 @@
+// One round of a phase: each place that has an action of the phase's kind joins the set, and its entry is written.
+ghost use mathlib.Core.Path.{_≡_};
+ghost use Prim.Native.Nat.{_+_, _*_, _<_, _≤_};
+ghost use lib.ListN.{length};
+ghost use Rattle.job.specs.Layout.{Fit};
+ghost use Rattle.labelling.specs.Scan.{phase-value};
+ghost use Rattle.labelling.specs.Round.{Ready, Passed, Begun, BegunAll};
+use crate::scan::Phase;
+use job::layout::Layout;
+use rules::actions::LowestAction;
+use rules::entry::Entry;
+use rules::places::PlaceSet;
+
+// The value that a phase's places have, in a plan.
+fn value_of(phase: Phase) -> u8
+    ensures { λ r. ⌜ r ≡ phase-value phase ⌝ }
+{
+    match phase {
+        Phase::Winning => rules::answer::Value::Winning.number(),
+        Phase::Pending => rules::answer::Value::Pending.number(),
+    }
+}
+
+// One place in a round: it joins the set if it is not in the old one and has an action of the phase's kind.
+fn label_place(
+    new: &mut [u64; 64],
+    plan: &mut [u8],
+    job: &[u8],
+    l: Layout,
+    old: &[u64; 64],
+    s: usize,
+    q: usize,
+    start: usize,
+    end: usize,
+    phase: Phase,
+    number: u16,
+)
+    requires { ⌜ Ready (now job) l s start end (now new) (now plan) ⌝ }
+    requires { ⌜ q < l .goals ⌝ }
+    ensures { λ _. ⌜ Passed (now (job .entry)) l phase number (now (old .entry)) (s * l .goals + q) (s * l .goals + q + 1) (now (new .entry)) (now (plan .entry)) (now (new .exit)) (now (plan .exit)) ⌝ }
+{
+    let i = s * l.goals + q;
+    if rules::places::has_place(old, i) {
+        return;
+    }
+    let marks = crate::scan::scan(job, l, old, s, q, start, end);
+    match crate::scan::choose(marks, phase) {
+        LowestAction::Is(action) => {
+            rules::places::put_place(new, i);
+            let value = value_of(phase);
+            rules::entry::write_entry(
+                plan,
+                i,
+                Entry {
+                    value,
+                    action,
+                    number,
+                },
+            );
+        }
+        LowestAction::Nothing => {}
+    }
+}
+
+// The places of one state in a round.
+fn label_state(
+    new: &mut [u64; 64],
+    plan: &mut [u8],
+    job: &[u8],
+    l: Layout,
+    old: &[u64; 64],
+    s: usize,
+    start: usize,
+    end: usize,
+    phase: Phase,
+    number: u16,
+)
+    requires { ⌜ Ready (now job) l s start end (now new) (now plan) ⌝ }
+    ensures { λ _. ⌜ Passed (now (job .entry)) l phase number (now (old .entry)) (s * l .goals) (s * l .goals + l .goals) (now (new .entry)) (now (plan .entry)) (now (new .exit)) (now (plan .exit)) ⌝ }
+{
+    let goals = l.goals;
+    let mut q: usize = 0;
+    while q < goals {
+        label_place(new, plan, job, l, old, s, q, start, end, phase, number);
+        q += 1;
+    }
+}
+
+// One round: every place, state by state.
+pub fn one_round(
+    plan: &mut [u8],
+    job: &[u8],
+    l: Layout,
+    set: PlaceSet,
+    phase: Phase,
+    number: u16,
+) -> PlaceSet
+    requires { ⌜ Fit (now job) l ⌝ }
+    requires { ⌜ 4 * (l .states * l .goals) ≤ length (now plan) ⌝ }
+    ensures { λ r. ⌜ Passed (now (job .entry)) l phase number (set .words) 0 (l .states * l .goals) (set .words) (now (plan .entry)) (r .words) (now (plan .exit)) ⌝ }
+{
+    let old = set.words;
+    let mut new = set.words;
+    let states = l.states;
+    let mut start: usize = 0;
+    let mut s: usize = 0;
+    while s < states {
+        let end = crate::scan::range_end(job, l, s, start);
+        label_state(&mut new, plan, job, l, &old, s, start, end, phase, number);
+        start = end;
+        s += 1;
+    }
+    PlaceSet { words: new }
+}
+
+// Round 0 at the place whose entry is i: an accepted one joins the set, and every entry is written.
+fn begin_place(new: &mut [u64; 64], plan: &mut [u8], job: &[u8], l: Layout, i: usize)
+    requires { ⌜ Fit (now job) l ⌝ }
+    requires { ⌜ i < l .states * l .goals ⌝ }
+    requires { ⌜ length (now new) ≡ 64 ⌝ }
+    requires { ⌜ 4 * (l .states * l .goals) ≤ length (now plan) ⌝ }
+    ensures { λ _. ⌜ Begun (now (job .entry)) l i (i + 1) (now (new .entry)) (now (plan .entry)) (now (new .exit)) (now (plan .exit)) ⌝ }
+{
+    if job::ask::is_final(job, l, i % l.goals) {
+        rules::places::put_place(new, i);
+        let value = rules::answer::Value::Winning.number();
+        rules::entry::write_entry(
+            plan,
+            i,
+            Entry {
+                value,
+                action: 255,
+                number: 0,
+            },
+        );
+        return;
+    }
+    let value = rules::answer::Value::Losing.number();
+    rules::entry::write_entry(
+        plan,
+        i,
+        Entry {
+            value,
+            action: 255,
+            number: 0,
+        },
+    );
+}
+
+// Round 0: the accepted places, and an entry for every place.
+pub fn begin(plan: &mut [u8], job: &[u8], l: Layout) -> PlaceSet
+    requires { ⌜ Fit (now job) l ⌝ }
+    requires { ⌜ 4 * (l .states * l .goals) ≤ length (now plan) ⌝ }
+    ensures { λ r. ⌜ BegunAll (now (job .entry)) l (now (plan .entry)) (r .words) (now (plan .exit)) ⌝ }
+{
+    let none = PlaceSet::empty();
+    let mut new = none.words;
+    let n = l.states * l.goals;
+    let mut i: usize = 0;
+    while i < n {
+        begin_place(&mut new, plan, job, l, i);
+        i += 1;
+    }
+    PlaceSet { words: new }
+}

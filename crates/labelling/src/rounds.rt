@@ -1,0 +1,61 @@
+// Rounds of a phase until one adds nothing, and both phases.
+ghost use mathlib.Core.Bool.{Bool};
+ghost use mathlib.Core.List.{List};
+ghost use Prim.Native.Nat.{ℕ, _*_, _≤_};
+ghost use lib.ListN.{length};
+ghost use Rattle.rules.specs.Bytes.{said};
+ghost use Rattle.job.specs.Layout.{Fit};
+ghost use Rattle.rules.specs.declared.place.Place.{Place};
+ghost use Rattle.rules.specs.declared.entry.Entry.{Entry};
+ghost use Rattle.labelling.specs.Rounds.{Holds, Settled, Labelled};
+use crate::scan::Phase;
+use job::layout::Layout;
+use rules::places::PlaceSet;
+
+// What the rounds of a phase leave: the set, and whether a round numbered S·Q still added a place.
+pub struct Rounds {
+    pub set: PlaceSet,
+    pub over: bool,
+}
+
+// Rounds of the phase, from the set on.
+pub fn all_rounds(plan: &mut [u8], job: &[u8], l: Layout, set: PlaceSet, phase: Phase) -> Rounds
+    requires { ⌜ Fit (now job) l ⌝ }
+    requires { ⌜ 4 * (l .states * l .goals) ≤ length (now plan) ⌝ }
+    ensures { λ r. ⌜ ((f : Place → Bool) (e : Place → Entry) (before : List ℕ) → Holds (said (now (job .entry))) f e before (set .words) (now (plan .entry)) → Settled (said (now (job .entry))) phase f e before r (now (plan .exit))) ⌝ }
+{
+    let n = l.states * l.goals;
+    let mut got = set;
+    let mut k: usize = 0;
+    while k < n {
+        let next = crate::round::one_round(plan, job, l, got, phase, (k + 1) as u16);
+        if next.size() == got.size() {
+            return Rounds {
+                set: next,
+                over: false,
+            };
+        }
+        got = next;
+        k += 1;
+    }
+    Rounds {
+        set: got,
+        over: true,
+    }
+}
+
+// Labels every place; true where a round numbered S·Q would still add one.
+pub fn label_all(plan: &mut [u8], job: &[u8], l: Layout) -> bool
+    requires { ⌜ Fit (now job) l ⌝ }
+    requires { ⌜ 4 * (l .states * l .goals) ≤ length (now plan) ⌝ }
+    ensures { λ r. ⌜ Labelled (said (now (job .entry))) (now (plan .entry)) r (now (plan .exit)) ⌝ }
+{
+    let first = crate::round::begin(plan, job, l);
+    let won = all_rounds(plan, job, l, first, Phase::Winning);
+    if won.over {
+        return true;
+    }
+    let set = won.set;
+    let all = all_rounds(plan, job, l, set, Phase::Pending);
+    all.over
+}

@@ -1,0 +1,126 @@
+// The records of one state, looked through for one place: which actions are open, which may lead into a set of places, which out of it.
+ghost use mathlib.Core.Path.{_≡_};
+ghost use Prim.Native.Nat.{_+_, _<_, _≤_};
+ghost use Rattle.rules.specs.Bytes.{said};
+ghost use Rattle.rules.specs.Job.{entered, place};
+ghost use Rattle.job.specs.Layout.{Fit};
+ghost use Rattle.labelling.specs.Scan.{in-set, From, Range, Marked, Scanned, LowestPassing, marked-for};
+use job::layout::Layout;
+use rules::actions::ActionSet;
+use rules::actions::LowestAction;
+use rules::place::Move;
+
+// What the rounds of a phase label.
+pub enum Phase {
+    Winning,
+    Pending,
+}
+
+// Sets of actions at a place: those with a record, those with an outcome in the set of places, and those with one outside it.
+pub struct Marks {
+    pub opens: ActionSet,
+    pub held: ActionSet,
+    pub spoilt: ActionSet,
+}
+
+// Where the records of state s end, which begin at start.
+pub fn range_end(job: &[u8], l: Layout, s: usize, start: usize) -> usize
+    requires { ⌜ Fit (now job) l ⌝ }
+    requires { ⌜ From (said (now job)) s start ⌝ }
+    ensures { λ r. ⌜ (start ≤ r) × From (said (now (job .entry))) (s + 1) r ⌝ }
+{
+    let n = l.records;
+    let mut k = start;
+    while k < n {
+        let m = job::ask::move_at(job, l, k);
+        if m.state as usize != s {
+            return k;
+        }
+        k += 1;
+    }
+    k
+}
+
+// Whether the place that is entered with state t from goal state q is in the set.
+fn is_inside(job: &[u8], l: Layout, words: &[u64; 64], q: usize, t: usize) -> bool
+    requires { ⌜ Fit (now job) l ⌝ }
+    requires { ⌜ q < l .goals ⌝ }
+    requires { ⌜ t < l .states ⌝ }
+    ensures { λ r. ⌜ r ≡ in-set (l .goals) (now (words .entry)) (entered (said (now (job .entry))) q t) ⌝ }
+{
+    let g = job::ask::next_goal(job, l, q, t);
+    rules::places::has_place(words, t * l.goals + g)
+}
+
+// The marks with one record more: its action is open, and held or spoilt by its outcome.
+fn mark(x: Marks, action: u8, inside: bool) -> Marks
+    ensures { λ r. ⌜ Marked x action inside r ⌝ }
+{
+    let opens = x.opens.with(action);
+    if inside {
+        let held = x.held.with(action);
+        let spoilt = x.spoilt;
+        return Marks {
+            opens,
+            held,
+            spoilt,
+        };
+    }
+    let held = x.held;
+    let spoilt = x.spoilt.with(action);
+    Marks {
+        opens,
+        held,
+        spoilt,
+    }
+}
+
+// The marks of the place of state s and goal state q: the records of s are those from start up to end.
+pub fn scan(
+    job: &[u8],
+    l: Layout,
+    words: &[u64; 64],
+    s: usize,
+    q: usize,
+    start: usize,
+    end: usize,
+) -> Marks
+    requires { ⌜ Fit (now job) l ⌝ }
+    requires { ⌜ q < l .goals ⌝ }
+    requires { ⌜ Range (said (now job)) s start end ⌝ }
+    ensures { λ r. ⌜ Scanned (said (now (job .entry))) (in-set (l .goals) (now (words .entry))) (place s q) r ⌝ }
+{
+    let opens = ActionSet::none();
+    let held = ActionSet::none();
+    let spoilt = ActionSet::none();
+    let mut x = Marks {
+        opens,
+        held,
+        spoilt,
+    };
+    let mut k = start;
+    while k < end {
+        let m = job::ask::move_at(job, l, k);
+        let inside = is_inside(job, l, words, q, m.outcome as usize);
+        x = mark(x, m.action, inside);
+        k += 1;
+    }
+    x
+}
+
+// The lowest action that the phase looks for: one that is open and not spoilt, or one that is held.
+pub fn choose(x: Marks, phase: Phase) -> LowestAction
+    ensures { λ r. ⌜ LowestPassing (marked-for phase x) r ⌝ }
+{
+    match phase {
+        Phase::Winning => {
+            let opens = x.opens;
+            let spoilt = x.spoilt;
+            opens.without(spoilt).lowest()
+        }
+        Phase::Pending => {
+            let held = x.held;
+            held.lowest()
+        }
+    }
+}
