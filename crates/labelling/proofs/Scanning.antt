@@ -64,7 +64,7 @@ module _ {A : Type 0} where
 pub from-start : (j : Job) → From j 0 0
 from-start j = record { few = zero-le; below = λ i h. absurd (omega arith); above = λ i h g. zero-le }
 
--- the records of states up to s, passed up to k: those of states below s are those before start
+-- the records before k are passed, none of a state above s; those of states below s are those before start
 pub record Passing (j : Job) (s start k : ℕ) : Type 0 where
   pub first : From j s start
   pub past : start ≤ k
@@ -96,7 +96,7 @@ module _ {b : List ℕ} {l : Layout} (f : Fit b l) {s start k : ℕ} (p : Passin
 
 -- ---- the marks that the first k records leave
 
--- of at most one outcome
+-- a test of the outcome o, listed where x is true
 one-found : (f : ℕ → Bool) (x : Bool) (o : ℕ) → some f (cond x (o ∷ []) []) ≡ (x && f o)
 unfolding some
 one-found f true o = go (f o)
@@ -191,7 +191,7 @@ module _ {j : Job} {f : Place → Bool} {p : Place} where
         spoilt = λ a. i .spoilt a ∙ sym (found-all j (λ t. not (f t)) p h a);
       }
 
--- a record in the range of s is one of s
+-- what lies in the range of s is a record, and one of s
 module _ {j : Job} {s start end k : ℕ} (r : Range j s start end) where
   pub range-few : k < end → k < j .records
   range-few h = omega (arith, r .ends .few)
@@ -234,9 +234,9 @@ module _ {G : Arena} (L : Lawful G) (f : G .Place → Bool) (p : G .Place) where
   pub choice-any : (v : Phase) (r : LowestAction) → LowestPassing (wanted v G f p) r → LowestCounted (wanted v G f p) (G .actions) r
   choice-any v (LowestAction.Is a) h =
       let w = wanted v G f p in
-      let some = any-true w (G .actions) a (wanted-counted v a (h .1)) (h .1) in
+      let hit = any-true w (G .actions) a (wanted-counted v a (h .1)) (h .1) in
       let least : Least (λ i. w i ≡ true) a = (h .1, λ m e. let none : m < a → ⊥ = λ l. clash e (h .2 m l) in omega arith) in
-      (some, least-unique (lowest-found w (G .actions) some .1) least)
+      (hit, least-unique (lowest-found w (G .actions) hit .1) least)
   choice-any v LowestAction.Nothing h =
       let w = wanted v G f p in
       if-not-true (any w (G .actions)) (λ e. let t = any-found w (G .actions) e in clash (t .2) (h (t .0)))

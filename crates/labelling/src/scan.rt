@@ -8,7 +8,6 @@ ghost use Rattle.labelling.specs.Scan.{in-set, From, Range, Marked, Scan
 use job::layout::Layout;
 use rules::actions::ActionSet;
 use rules::actions::LowestAction;
-use rules::place::Move;
 
 // What the rounds of a phase label.
 pub enum Phase {

@@ -1,12 +1,10 @@
 -- An answer is known by its figures: no two answers have the same.
 use Prim.Native.Nat.{ℕ, zero, suc}
 use mathlib.Core.Path.{_≡_, refl, sym, ap, _∙_}
-use Rattle.rules.specs.Job.{place}
-use Rattle.rules.specs.Answers.{refusal-number, value-number, MovedFigures, AdvisedFigures, planned-figure, moved-figures, advised-figures}
+use Rattle.rules.specs.Answers.{refusal-number, value-number, AdvisedFigures, planned-figure, advised-figures}
 use Rattle.rules.specs.declared.answer.Refusal.{Refusal}
 use Rattle.rules.specs.declared.answer.Value.{Value}
 use Rattle.rules.specs.declared.answer.Planned.{Planned}
-use Rattle.rules.specs.declared.answer.Moved.{Moved}
 use Rattle.rules.specs.declared.answer.Advised.{Advised}
 
 -- what can be read back from an image is known by it
@@ -77,13 +75,6 @@ planned-back : (r : Planned) → by-refusal (planned-figure r) Planned.Done Plan
 planned-back Planned.Done = refl
 planned-back (Planned.Refused r) = by-refusal-back r Planned.Done Planned.Refused
 
-abbrev moved-of : MovedFigures → Moved
-moved-of f = by-refusal (f .refusal) (Moved.To (place (f .state) (f .goal))) Moved.Refused
-
-moved-back : (r : Moved) → moved-of (moved-figures r) ≡ r
-moved-back (Moved.To p) = refl
-moved-back (Moved.Refused r) = by-refusal-back r _ Moved.Refused
-
 abbrev advised-of : AdvisedFigures → Advised
 advised-of f = by-refusal (f .refusal) (Advised.Says (value-of (f .value)) (f .action) (f .number)) Advised.Refused
 
@@ -93,9 +84,6 @@ advised-back (Advised.Refused r) = by-refusal-back r _ Advised.Refused
 
 pub planned-known : (r s : Planned) → planned-figure r ≡ planned-figure s → r ≡ s
 planned-known = known-by planned-figure (λ n. by-refusal n Planned.Done Planned.Refused) planned-back
-
-pub moved-known : (r s : Moved) → moved-figures r ≡ moved-figures s → r ≡ s
-moved-known = known-by moved-figures moved-of moved-back
 
 pub advised-known : (r s : Advised) → advised-figures r ≡ advised-figures s → r ≡ s
 advised-known = known-by advised-figures advised-of advised-back

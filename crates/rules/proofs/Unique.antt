@@ -10,15 +10,14 @@ use Rattle.rules.specs.Bytes.{said}
 use Rattle.rules.specs.Keeps.{Keeps}
 use Rattle.rules.specs.Plan.{room}
 use Rattle.rules.specs.Calls.{Overrun, Planning, refused, no-room, overrun, planned, started, followed, advised}
-use Rattle.rules.specs.Answers.{planned-figure, moved-figures, advised-figures}
+use Rattle.rules.specs.Answers.{MovedFigures, planned-figure, advised-figures}
 use Rattle.rules.specs.declared.answer.Planned.{Planned}
-use Rattle.rules.specs.declared.answer.Moved.{Moved}
 use Rattle.rules.specs.declared.answer.Advised.{Advised}
 use Rattle.rules.proofs.Bounds.{wins-below, hopes-below}
 use Rattle.rules.proofs.Kept.{kept}
 use Rattle.rules.proofs.Arenas.{size-of, arena-lawful}
 use Rattle.rules.proofs.Plans.{plan-unique}
-use Rattle.rules.proofs.Figures.{planned-known, moved-known, advised-known}
+use Rattle.rules.proofs.Figures.{planned-known, advised-known}
 
 below : {m n : ℕ} → m < n → n ≡ m → ⊥
 below h e = omega arith
@@ -52,11 +51,12 @@ pub planned-unique : {b before after after′ : List ℕ} (r r′ : Planned) →
     → Planning b before (planned-figure r′) after′ → (r ≡ r′) × (after ≡ after′)
 planned-unique r r′ p p′ = let u = planning-unique p p′ in (planned-known r r′ (u .0), u .1)
 
-pub started-unique : (b : List ℕ) (r r′ : Moved) → moved-figures r ≡ started b → moved-figures r′ ≡ started b → r ≡ r′
-started-unique b r r′ e e′ = moved-known r r′ (e ∙ sym e′)
+-- starting and following: what they answer is one record of figures
+pub started-unique : (b : List ℕ) (f f′ : MovedFigures) → f ≡ started b → f′ ≡ started b → f ≡ f′
+started-unique b f f′ e e′ = e ∙ sym e′
 
-pub followed-unique : (b : List ℕ) (s q a t : ℕ) (r r′ : Moved) → moved-figures r ≡ followed b s q a t → moved-figures r′ ≡ followed b s q a t → r ≡ r′
-followed-unique b s q a t r r′ e e′ = moved-known r r′ (e ∙ sym e′)
+pub followed-unique : (b : List ℕ) (s q a t : ℕ) (f f′ : MovedFigures) → f ≡ followed b s q a t → f′ ≡ followed b s q a t → f ≡ f′
+followed-unique b s q a t f f′ e e′ = e ∙ sym e′
 
 pub advised-unique : (b p : List ℕ) (s q : ℕ) (r r′ : Advised) → advised-figures r ≡ advised b p s q → advised-figures r′ ≡ advised b p s q → r ≡ r′
 advised-unique b p s q r r′ e e′ = advised-known r r′ (e ∙ sym e′)

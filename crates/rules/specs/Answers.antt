@@ -8,7 +8,6 @@ use Rattle.rules.specs.declared.entry.Shape.{Shape}
 use Rattle.rules.specs.declared.answer.Refusal.{Refusal}
 use Rattle.rules.specs.declared.answer.Value.{Value}
 use Rattle.rules.specs.declared.answer.Planned.{Planned}
-use Rattle.rules.specs.declared.answer.Moved.{Moved}
 use Rattle.rules.specs.declared.answer.Advised.{Advised}
 
 abbrev pub refusal-number : Refusal → ℕ
@@ -44,10 +43,6 @@ pub record AdvisedFigures : Type 0 where
 abbrev pub planned-figure : Planned → ℕ
 planned-figure Planned.Done = 0
 planned-figure (Planned.Refused r) = refusal-number r
-
-abbrev pub moved-figures : Moved → MovedFigures
-moved-figures (Moved.To p) = record { refusal = 0; state = p .state; goal = p .goal }
-moved-figures (Moved.Refused r) = record { refusal = refusal-number r; state = 0; goal = 0 }
 
 abbrev pub advised-figures : Advised → AdvisedFigures
 advised-figures (Advised.Says v a n) = record { refusal = 0; value = value-number v; action = a; number = n }

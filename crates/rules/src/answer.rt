@@ -1,7 +1,6 @@
 // The answers of the calls, and the numbers that stand for them.
 ghost use mathlib.Core.Path.{_≡_};
 ghost use Rattle.rules.specs.Answers.{refusal-number, value-number};
-use crate::place::Place;
 
 // Why a call says no: the names of the table of numbers that say no, in its order.
 pub enum Refusal {
@@ -27,12 +26,6 @@ pub enum Value {
 // What planning answers.
 pub enum Planned {
     Done,
-    Refused(Refusal),
-}
-
-// What starting and following answer.
-pub enum Moved {
-    To(Place),
     Refused(Refusal),
 }
 

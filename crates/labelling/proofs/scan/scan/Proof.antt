@@ -7,7 +7,7 @@ use Rattle.rules.specs.Job.{place}
 use Rattle.rules.specs.Bytes.{said}
 use Rattle.job.proofs.Asking.{records-said, outcome-below, action-few}
 use Rattle.labelling.specs.Scan.{in-set}
-use Rattle.labelling.proofs.Scanning.{Scanning, scanning-none, scanning-more, scanning-all, range-state}
+use Rattle.labelling.proofs.Scanning.{Scanning, scanning-none, scanning-more, scanning-all, range-few, range-state}
 use Rattle.labelling.proofs.scan.scan.Statement.{statement}
 use Rattle.labelling.proofs.scan.scan.Tie as tie
 
@@ -36,7 +36,7 @@ loop-holds c =
 there : (c : tie.In-loop Inv-loop μ-loop) → let s = c .before .before .before .before .before .before in c .before .loop .k < s .args .l .records
 there c =
     let s = c .before .before .before .before .before .before in
-    omega (arith, records-said (s .pre .0), s .pre .1 .1 .ends .few, c .loop-test .taken)
+    rw (records-said (s .pre .0)) (range-few (s .pre .1 .1) (c .loop-test .taken))
 
 move-at-requires : tie.Need-move-at-requires Inv-loop μ-loop
 move-at-requires c κs = (c .before .before .before .before .before .before .pre .0, there c)
