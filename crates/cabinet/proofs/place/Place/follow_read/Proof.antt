@@ -1,0 +1,73 @@
+-- `Place::follow_read` meets its contract: the place is judged, then the record is looked for, and its outcome is entered.
+use mathlib.Core.Path.{_∙_, subst}
+use borrow.Author.Needs.{needs}
+use Rattle.rules.specs.Bytes.{said}
+use Rattle.job.specs.Found.{FoundOf}
+use Rattle.job.proofs.Asking.{found-below}
+use Rattle.cabinet.proofs.Answering.{no-state, no-goal, is-one, follow-no-place, follow-unknown, follow-moves}
+use Rattle.cabinet.proofs.place.Place.follow_read.Statement.{statement}
+use Rattle.cabinet.proofs.place.Place.follow_read.Tie as tie
+
+cast-s : tie.Need-cast-s
+cast-s c = search needs
+
+cast-q : tie.Need-cast-q
+cast-q c = search needs
+
+returns : tie.Need-returns
+returns c =
+    let f = c .before .before .before .before .before .pre in
+    follow-no-place f _ _ _ _ (no-state f _ _ (c .if1 .taken))
+
+returns-2 : tie.Need-returns-2
+returns-2 c =
+    let f = c .before .before .before .before .before .before .before .pre in
+    follow-no-place f _ _ _ _ (no-goal f _ _ (c .before .before .if1 .left) (c .if2 .taken))
+
+find-requires : tie.Need-find-requires
+find-requires c κs = search needs
+
+enum-told : tie.Need-enum-told
+enum-told c = search needs
+
+enum-told-2 : tie.Need-enum-told-2
+enum-told-2 c = search needs
+
+enter-requires : tie.Need-enter-requires
+enter-requires c κs =
+    let args = c .before .before .before .before .before .before .before .before .before .before .args in
+    let f = c .before .before .before .before .before .before .before .before .before .before .pre in
+    let e = subst (FoundOf (said (args .job .now)) (args .self .state) (args .action) (args .outcome)) (c .enum-told2 .given .1) (c .before .before .find .ensures) in
+    (f, (c .before .before .before .if2 .left, found-below f (args .self .state) (args .action) (args .outcome) (e .1) (e .2)))
+
+returns-3 : tie.Need-returns-3
+returns-3 c =
+    let args = c .before .before .before .before .before .before .before .before .before .before .args in
+    let f = c .before .before .before .before .before .before .before .before .before .before .pre in
+    let e = subst (FoundOf (said (args .job .now)) (args .self .state) (args .action) (args .outcome)) (c .enum-told .given .1) (c .before .before .find .ensures) in
+    follow-unknown f (args .self .state) (args .self .goal) (args .action) (args .outcome)
+    (is-one f _ _ (c .before .before .before .before .before .if1 .left) (c .before .before .before .if2 .left)) e
+
+returns-4 : tie.Need-returns-4
+returns-4 c =
+    let args = c .before .before .before .before .before .before .before .before .before .before .before .args in
+    let f = c .before .before .before .before .before .before .before .before .before .before .before .pre in
+    let e = subst (FoundOf (said (args .job .now)) (args .self .state) (args .action) (args .outcome)) (c .before .enum-told2 .given .1) (c .before .before .before .find .ensures) in
+    c .enter .ensures
+    ∙ follow-moves f (args .self .state) (args .self .goal) (args .action) (args .outcome)
+    (is-one f _ _ (c .before .before .before .before .before .before .if1 .left) (c .before .before .before .before .if2 .left)) (e .0)
+
+pub follow-read-spec : {M : Type 1} → statement M
+follow-read-spec =
+    tie.close
+    (tie.spec
+    cast-s
+    cast-q
+    returns
+    returns-2
+    find-requires
+    enum-told
+    enum-told-2
+    enter-requires
+    returns-3
+    returns-4)

@@ -1,0 +1,3 @@
+// The calls for C, and the place that a caller holds.
+pub mod calls;
+pub mod place;

@@ -1,0 +1,102 @@
+/* The planner of the cabinet, called from C with byte buffers and plain numbers.
+
+   A job is a table of moves with a goal, in bytes. Planning labels every place of it (a state of the cabinet with a goal state) as
+   winning, pending or losing, and writes a plan of four bytes a place into a buffer that you lend. You then find the starting place,
+   ask the plan for advice, take the action, say which outcome was observed, and so on, until the goal is met or lost.
+
+   The library needs no heap, keeps nothing between calls, and takes every input: what is bad is refused by number, the first fault
+   first. A refusal changes nothing in the plan buffer.
+
+   What you owe: a pointer and its length describe memory of yours that holds that many bytes for as long as the call runs; a length of
+   0 wants a pointer that is not null all the same; the job and the plan do not overlap; and nothing else writes to them during a call.
+   Calls on different buffers may run at the same time.
+
+   Link with -lcabinet (x86-64, GNU/Linux). */
+
+#ifndef CABINET_H
+#define CABINET_H
+
+#include <stddef.h>
+#include <stdint.h>
+
+#ifdef __cplusplus
+extern "C" {
+#endif
+
+/* The longest job that is not refused, and the longest plan: 4 bytes for each of 128 states with each of 32 goal states. */
+#define CABINET_JOB_MAX 14518
+#define CABINET_PLAN_MAX 16384
+
+/* Numbers that say no. The first in this order that applies is the answer; 0 is success. */
+enum cabinet_refusal {
+  CABINET_OK = 0,
+  CABINET_SHORT = 1,    /* the job is under 16 bytes */
+  CABINET_CONTENTS = 2, /* an offset or end breaks the job's layout, or Counts is not 6 bytes long */
+  CABINET_COUNTS = 3,   /* a count or a first number is out of range */
+  CABINET_LABELS = 4,   /* not one label a state, or a label of 2^P or more */
+  CABINET_MOVES = 5,    /* not whole records, more than 4,096, a field out of range, or records not strictly ascending */
+  CABINET_GOAL = 6,     /* Goal has the wrong length, a goal state is not below Q, or a mark is above 1 */
+  CABINET_ROOM = 7,     /* the plan buffer is under 4 * S * Q bytes */
+  CABINET_ROUNDS = 8,   /* labelling would still add a place in round S * Q; proved never to happen */
+  CABINET_PLACE = 9,    /* the state is not below S, or the goal state is not below Q */
+  CABINET_ENTRY = 10,   /* the plan's entry has none of the four shapes */
+  CABINET_OUTCOME = 11  /* no record has this state, action and outcome */
+};
+
+/* The value of a place. */
+enum cabinet_value {
+  CABINET_LOSING = 0,  /* no choice with any outcomes meets the goal */
+  CABINET_PENDING = 1, /* some choices with some outcomes meet it, but none forces it */
+  CABINET_WINNING = 2  /* some way of choosing meets it, whatever the outcomes */
+};
+
+/* The action of a place that has none: the goal is met, or lost. */
+#define CABINET_NO_ACTION 255
+
+/* The answers. The refusal comes first; where it is not 0, every other figure is 0. */
+typedef struct {
+  uint32_t refusal;
+} cabinet_planned;
+
+typedef struct {
+  uint32_t refusal, state, goal;
+} cabinet_moved;
+
+typedef struct {
+  uint32_t refusal, value, action, number;
+} cabinet_advised;
+
+/* Plans the job into the buffer: entry s * Q + q, four bytes, says of state s with goal state q its value, its action (255: none) and
+   its number, low byte first. Bytes beyond the plan stay as they are. Gives 1 to 8. */
+cabinet_planned cabinet_plan(const uint8_t *job, size_t job_len, uint8_t *plan, size_t plan_len);
+
+/* The starting place: the first state, with the goal state that has read its label. Gives 1 to 6. */
+cabinet_moved cabinet_start(const uint8_t *job, size_t job_len);
+
+/* The place after an observed move: at this place the action was taken and led to the outcome. Any figures may be handed over. Following
+   is allowed where the goal is met, too. Gives 1 to 6, 9, 11. */
+cabinet_moved cabinet_follow(const uint8_t *job, size_t job_len, uint32_t state, uint32_t goal, uint32_t action, uint32_t outcome);
+
+/* What a plan says of a place. From a winning place the goal is met within `number` moves if the advice is followed; from a pending one some
+   outcomes reach a winning place in `number` moves. The plan is read and never written, and trusted by the asked entry's shape only: that
+   it belongs to the job is yours to see to. Gives 1 to 7, 9, 10. */
+cabinet_advised cabinet_advice(const uint8_t *job, size_t job_len, const uint8_t *plan, size_t plan_len, uint32_t state, uint32_t goal);
+
+/* In short:
+
+     static uint8_t plan[CABINET_PLAN_MAX];
+     if (cabinet_plan(job, job_len, plan, sizeof plan).refusal != CABINET_OK) return;
+     cabinet_moved at = cabinet_start(job, job_len);
+     for (;;) {
+       cabinet_advised say = cabinet_advice(job, job_len, plan, sizeof plan, at.state, at.goal);
+       if (say.action == CABINET_NO_ACTION) break;   // met where say.value is CABINET_WINNING, else lost
+       uint32_t outcome = perform(say.action);        // your machine: the state that it is in now
+       at = cabinet_follow(job, job_len, at.state, at.goal, say.action, outcome);
+     }
+*/
+
+#ifdef __cplusplus
+}
+#endif
+
+#endif
