@@ -26,16 +26,19 @@ pub fn all_rounds(plan: &mut [u8], job: &[u8], l: Layout, set: PlaceSet, phase: 
 {
     let n = l.states * l.goals;
     let mut got = set;
+    let mut few = set.size();
     let mut k: usize = 0;
     while k < n {
         let next = crate::round::one_round(plan, job, l, got, phase, (k + 1) as u16);
-        if next.size() == got.size() {
+        let more = next.size();
+        if more == few {
             return Rounds {
                 set: next,
                 over: false,
             };
         }
         got = next;
+        few = more;
         k += 1;
     }
     Rounds {
