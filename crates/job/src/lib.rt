@@ -1,5 +1,5 @@
 // Reading a job from bytes: its layout and counts or the first refusal, and what it says of a state, a goal state or a record.
 pub mod accept;
 pub mod ask;
-pub mod body;
+mod body;
 pub mod layout;
