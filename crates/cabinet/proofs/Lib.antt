@@ -1,2 +1,4 @@
 -- The laws that belong to no one function.
 pub mod Answering
+pub mod Starting
+pub mod Unique

@@ -20,7 +20,9 @@ same-length c = search needs
 
 returns : tie.Need-returns
 returns c =
-    rw (c .number .ensures) (rw (c .before .before .why .given .1) at (c .before .before .before .before .before .before .plan .ensures))
+    let d = c .before .before in
+    let p = rw (d .why .given .1) at (d .before .before .before .before .plan .ensures) in
+    rw (← c .number .ensures) at p
 
 same-length-2 : tie.Need-same-length-2
 same-length-2 c = search needs

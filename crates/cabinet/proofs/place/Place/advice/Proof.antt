@@ -1,9 +1,6 @@
 -- `Place::advice` meets its contract: what reading refuses is refused, and what it reads is looked up.
-use mathlib.Core.Path.{sym, ap, _∙_}
 use borrow.Author.Needs.{needs}
-use Rattle.job.specs.Reading.{reading-figures}
-use Rattle.job.proofs.Readings.{read-fit, read-refused}
-use Rattle.cabinet.proofs.Answering.{advice-refused}
+use Rattle.cabinet.proofs.Answering.{was-read, advice-refused}
 use Rattle.cabinet.proofs.place.Place.advice.Statement.{statement}
 use Rattle.cabinet.proofs.place.Place.advice.Tie as tie
 
@@ -18,14 +15,14 @@ enum-known-l c = search needs
 
 advice-read-requires : tie.Need-advice-read-requires
 advice-read-requires c κs =
-    read-fit _ _ (ap reading-figures (sym (c .before .l .given .1)) ∙ c .before .before .before .read .ensures)
+    let d = c .before .before .before in
+    was-read (d .before .before .before .args .job .now) (c .before .l .given .1) (d .read .ensures)
 
 returns : tie.Need-returns
 returns c =
-    let args = c .before .before .before .before .before .before .args in
-    let r = c .before .r .given .0 .0 in
-    let e = read-refused (args .job .now) r (ap reading-figures (sym (c .before .r .given .1)) ∙ c .before .before .before .read .ensures) in
-    advice-refused (args .job .now) r e (args .plan .now) (args .self .state) (args .self .goal)
+    let d = c .before .before .before in
+    let a = d .before .before .before .args in
+    advice-refused (a .job .now) (c .before .r .given .1) (d .read .ensures) (a .plan .now) (a .self .state) (a .self .goal)
 
 returns-2 : tie.Need-returns-2
 returns-2 c = search needs

@@ -19,41 +19,47 @@ mul-places c = omega (arith, few-places (c .before .before .before .before .befo
 mul-if1 : tie.Need-mul-if1
 mul-if1 c = omega (arith, few-places (c .before .before .before .before .before .pre))
 
+-- below: z is where it starts, n after the length's test, d after the place's, r after the entry is read
 returns : tie.Need-returns
 returns c =
-    let args = c .before .before .before .before .before .before .args in
-    let f = c .before .before .before .before .before .before .pre in
-    advice-short f (args .plan .now) (args .self .state) (args .self .goal) (c .if1 .taken)
+    let z = c .before .before .before .before .before .before in
+    advice-short (z .pre) (z .args .plan .now) (z .args .self .state) (z .args .self .goal) (c .if1 .taken)
 
 returns-2 : tie.Need-returns-2
 returns-2 c =
-    let args = c .before .before .before .before .before .before .before .before .args in
-    let f = c .before .before .before .before .before .before .before .before .pre in
-    advice-no-place f (args .plan .now) (args .self .state) (args .self .goal) (c .before .before .if1 .left)
-    (no-state f (args .self .state) (args .self .goal) (c .if2 .taken))
+    let n = c .before .before in
+    let z = n .before .before .before .before .before .before in
+    advice-no-place (z .pre) (z .args .plan .now) (z .args .self .state) (z .args .self .goal) (n .if1 .left)
+    (no-state (z .pre) _ _ (c .if2 .taken))
 
 returns-3 : tie.Need-returns-3
 returns-3 c =
-    let args = c .before .before .before .before .before .before .before .before .before .before .args in
-    let f = c .before .before .before .before .before .before .before .before .before .before .pre in
-    advice-no-place f (args .plan .now) (args .self .state) (args .self .goal) (c .before .before .before .before .if1 .left)
-    (no-goal f (args .self .state) (args .self .goal) (c .before .before .if2 .left) (c .if3 .taken))
+    let n = c .before .before .before .before in
+    let z = n .before .before .before .before .before .before in
+    advice-no-place (z .pre) (z .args .plan .now) (z .args .self .state) (z .args .self .goal) (n .if1 .left)
+    (no-goal (z .pre) _ _ (c .before .before .if2 .left) (c .if3 .taken))
 
 mul-read-entry : tie.Need-mul-read-entry
 mul-read-entry c =
-    let f = c .before .before .before .before .before .before .before .before .before .before .before .pre in
-    omega (arith, few-places f, digits-lt (c .before .before .before .if2 .left) (c .before .if3 .left))
+    let d = c .before in
+    let z = d .before .before .before .before .before .before .before .before .before .before in
+    omega (arith, few-places (z .pre), digits-lt (d .before .before .if2 .left) (d .if3 .left))
 
 add-read-entry : tie.Need-add-read-entry
 add-read-entry c =
-    let f = c .before .before .before .before .before .before .before .before .before .before .before .pre in
-    omega (arith, few-places f, digits-lt (c .before .before .before .if2 .left) (c .before .if3 .left))
+    let d = c .before in
+    let z = d .before .before .before .before .before .before .before .before .before .before in
+    omega (arith, few-places (z .pre), digits-lt (d .before .before .if2 .left) (d .if3 .left))
 
 read-entry-requires : tie.Need-read-entry-requires
-read-entry-requires c κs = omega (arith, digits-lt (c .before .before .before .if2 .left) (c .before .if3 .left))
+read-entry-requires c κs =
+    let d = c .before in
+    omega (arith, digits-lt (d .before .before .if2 .left) (d .if3 .left))
 
 cast-shape-of : tie.Need-cast-shape-of
-cast-shape-of c = omega (arith, few-places (c .before .before .before .before .before .before .before .before .before .before .before .before .pre))
+cast-shape-of c =
+    let d = c .before .before in
+    omega (arith, few-places (d .before .before .before .before .before .before .before .before .before .before .pre))
 
 shape-of-requires : tie.Need-shape-of-requires
 shape-of-requires c κs = search needs
@@ -66,25 +72,23 @@ enum-known-value c = search needs
 
 returns-4 : tie.Need-returns-4
 returns-4 c =
-    let args = c .before .before .before .before .before .before .before .before .before .before .before .before .before .before .before .args in
-    let f = c .before .before .before .before .before .before .before .before .before .before .before .before .before .before .before .pre in
-    let d = c .before .before .before .before in
-    let e = c .before .before .before .read-entry in
-    advice-shapeless f (args .plan .now) (args .self .state) (args .self .goal) (d .before .before .before .before .before .if1 .left)
-    (is-one f (args .self .state) (args .self .goal) (d .before .before .before .if2 .left) (d .before .if3 .left))
-    (e .result) (e .ensures)
-    (rw (c .enum-told .given .1) at (c .before .before .shape-of .ensures))
+    let r = c .before .before .before in
+    let d = r .before .before in
+    let n = d .before .before .before .before in
+    let z = n .before .before .before .before .before .before in
+    advice-shapeless (z .pre) (z .args .plan .now) (z .args .self .state) (z .args .self .goal) (n .if1 .left)
+    (is-one (z .pre) _ _ (d .before .before .if2 .left) (d .if3 .left)) (r .read-entry .ensures)
+    (c .enum-told .given .1) (c .before .before .shape-of .ensures)
 
 returns-5 : tie.Need-returns-5
 returns-5 c =
-    let args = c .before .before .before .before .before .before .before .before .before .before .before .before .before .before .before .before .args in
-    let f = c .before .before .before .before .before .before .before .before .before .before .before .before .before .before .before .before .pre in
-    let d = c .before .before .before .before .before in
-    let e = c .before .before .before .before .read-entry in
-    advice-says f (args .plan .now) (args .self .state) (args .self .goal) (d .before .before .before .before .before .if1 .left)
-    (is-one f (args .self .state) (args .self .goal) (d .before .before .before .if2 .left) (d .before .if3 .left))
-    (e .result) (e .ensures) (c .before .value .given .0 .0)
-    (rw (c .before .value .given .1) at (c .before .before .before .shape-of .ensures))
+    let r = c .before .before .before .before in
+    let d = r .before .before in
+    let n = d .before .before .before .before in
+    let z = n .before .before .before .before .before .before in
+    advice-says (z .pre) (z .args .plan .now) (z .args .self .state) (z .args .self .goal) (n .if1 .left)
+    (is-one (z .pre) _ _ (d .before .before .if2 .left) (d .if3 .left)) (r .read-entry .ensures)
+    (c .before .value .given .1) (c .before .before .before .shape-of .ensures)
 
 pub advice-read-spec : {M : Type 1} → statement M
 advice-read-spec =

@@ -1,9 +1,6 @@
 -- `Place::follow` meets its contract: what reading refuses is refused, and what it reads is followed.
-use mathlib.Core.Path.{sym, ap, _∙_}
 use borrow.Author.Needs.{needs}
-use Rattle.job.specs.Reading.{reading-figures}
-use Rattle.job.proofs.Readings.{read-fit, read-refused}
-use Rattle.cabinet.proofs.Answering.{follow-refused}
+use Rattle.cabinet.proofs.Answering.{was-read, follow-refused}
 use Rattle.cabinet.proofs.place.Place.follow.Statement.{statement}
 use Rattle.cabinet.proofs.place.Place.follow.Tie as tie
 
@@ -18,14 +15,14 @@ enum-known-l c = search needs
 
 follow-read-requires : tie.Need-follow-read-requires
 follow-read-requires c κs =
-    read-fit _ _ (ap reading-figures (sym (c .before .l .given .1)) ∙ c .before .before .before .read .ensures)
+    let d = c .before .before .before in
+    was-read (d .before .before .args .job .now) (c .before .l .given .1) (d .read .ensures)
 
 returns : tie.Need-returns
 returns c =
-    let args = c .before .before .before .before .before .args in
-    let r = c .before .r .given .0 .0 in
-    let e = read-refused (args .job .now) r (ap reading-figures (sym (c .before .r .given .1)) ∙ c .before .before .before .read .ensures) in
-    follow-refused (args .job .now) r e (args .self .state) (args .self .goal) (args .action) (args .outcome)
+    let d = c .before .before .before in
+    let a = d .before .before .args in
+    follow-refused (a .job .now) (c .before .r .given .1) (d .read .ensures) (a .self .state) (a .self .goal) (a .action) (a .outcome)
 
 returns-2 : tie.Need-returns-2
 returns-2 c = search needs

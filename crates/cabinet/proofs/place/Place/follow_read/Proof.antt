@@ -1,10 +1,7 @@
 -- `Place::follow_read` meets its contract: the place is judged, then the record is looked for, and its outcome is entered.
-use mathlib.Core.Path.{_∙_, subst}
+use mathlib.Core.Path.{_∙_}
 use borrow.Author.Needs.{needs}
-use Rattle.rules.specs.Bytes.{said}
-use Rattle.job.specs.Found.{FoundOf}
-use Rattle.job.proofs.Asking.{found-below}
-use Rattle.cabinet.proofs.Answering.{no-state, no-goal, is-one, follow-no-place, follow-unknown, follow-moves}
+use Rattle.cabinet.proofs.Answering.{no-state, no-goal, is-one, follow-no-place, follow-unknown, follow-moves, outcome-state}
 use Rattle.cabinet.proofs.place.Place.follow_read.Statement.{statement}
 use Rattle.cabinet.proofs.place.Place.follow_read.Tie as tie
 
@@ -33,29 +30,27 @@ enum-told c = search needs
 enum-told-2 : tie.Need-enum-told-2
 enum-told-2 c = search needs
 
+-- below: d is after the place's test, and f what was required
 enter-requires : tie.Need-enter-requires
 enter-requires c κs =
-    let args = c .before .before .before .before .before .before .before .before .before .before .args in
-    let f = c .before .before .before .before .before .before .before .before .before .before .pre in
-    let e = subst (FoundOf (said (args .job .now)) (args .self .state) (args .action) (args .outcome)) (c .enum-told2 .given .1) (c .before .before .find .ensures) in
-    (f, (c .before .before .before .if2 .left, found-below f (args .self .state) (args .action) (args .outcome) (e .1) (e .2)))
+    let d = c .before .before .before in
+    let f = d .before .before .before .before .before .before .before .pre in
+    (f, (d .if2 .left, outcome-state f _ _ _ (c .enum-told2 .given .1) (c .before .before .find .ensures)))
 
 returns-3 : tie.Need-returns-3
 returns-3 c =
-    let args = c .before .before .before .before .before .before .before .before .before .before .args in
-    let f = c .before .before .before .before .before .before .before .before .before .before .pre in
-    let e = subst (FoundOf (said (args .job .now)) (args .self .state) (args .action) (args .outcome)) (c .enum-told .given .1) (c .before .before .find .ensures) in
-    follow-unknown f (args .self .state) (args .self .goal) (args .action) (args .outcome)
-    (is-one f _ _ (c .before .before .before .before .before .if1 .left) (c .before .before .before .if2 .left)) e
+    let d = c .before .before .before in
+    let f = d .before .before .before .before .before .before .before .pre in
+    follow-unknown f _ _ _ _ (is-one f _ _ (d .before .before .if1 .left) (d .if2 .left)) (c .enum-told .given .1)
+    (c .before .before .find .ensures)
 
 returns-4 : tie.Need-returns-4
 returns-4 c =
-    let args = c .before .before .before .before .before .before .before .before .before .before .before .args in
-    let f = c .before .before .before .before .before .before .before .before .before .before .before .pre in
-    let e = subst (FoundOf (said (args .job .now)) (args .self .state) (args .action) (args .outcome)) (c .before .enum-told2 .given .1) (c .before .before .before .find .ensures) in
+    let d = c .before .before .before .before in
+    let f = d .before .before .before .before .before .before .before .pre in
     c .enter .ensures
-    ∙ follow-moves f (args .self .state) (args .self .goal) (args .action) (args .outcome)
-    (is-one f _ _ (c .before .before .before .before .before .before .if1 .left) (c .before .before .before .before .if2 .left)) (e .0)
+    ∙ follow-moves f _ _ _ _ (is-one f _ _ (d .before .before .if1 .left) (d .if2 .left)) (c .before .enum-told2 .given .1)
+    (c .before .before .before .find .ensures)
 
 pub follow-read-spec : {M : Type 1} → statement M
 follow-read-spec =

@@ -1,0 +1,62 @@
+//! Counts what a run has tried, so that its end can say how much was covered.
+
+use crate::oracle::Oracle;
+use std::collections::{BTreeMap, BTreeSet};
+
+#[derive(Default)]
+pub struct Tally {
+    inputs: u64,
+    kinds: BTreeMap<&'static str, u64>,
+    /// Refusals of jobs, 0 for the good ones.
+    jobs: [u64; 7],
+    /// Answers of all calls by refusal.
+    answers: [u64; 12],
+    /// Entries by value.
+    values: [u64; 3],
+    largest: usize,
+    labels_possible: BTreeSet<usize>,
+    goals: BTreeSet<usize>,
+    pub brute: u64,
+}
+
+impl Tally {
+    pub fn input(&mut self, kind: &'static str, oracle: &Oracle) {
+        self.inputs += 1;
+        *self.kinds.entry(kind).or_default() += 1;
+        self.jobs[oracle.refusal() as usize] += 1;
+        if let Ok(job) = &oracle.job {
+            self.labels_possible.insert(job.labels_possible);
+            self.goals.insert(job.goals);
+        }
+        for entry in &oracle.entries {
+            self.values[usize::from(entry.value)] += 1;
+            self.largest = self.largest.max(entry.number);
+        }
+    }
+
+    pub fn answer(&mut self, refusal: u32) {
+        if let Some(count) = self.answers.get_mut(refusal as usize) {
+            *count += 1;
+        }
+    }
+
+    pub fn print(&self) {
+        println!("kinds of input:");
+        for (kind, count) in &self.kinds {
+            println!("  {kind}: {count}");
+        }
+        let list = |counts: &[u64]| {
+            let each = counts.iter().enumerate().filter(|(_, &count)| count > 0);
+            each.map(|(refusal, count)| format!("{refusal}: {count}")).collect::<Vec<_>>().join(", ")
+        };
+        println!("jobs by refusal (0 is good): {}", list(&self.jobs));
+        println!("calls by answer (0 is good): {}", list(&self.answers));
+        println!("calls in all: {}", self.answers.iter().sum::<u64>());
+        let [losing, pending, winning] = self.values;
+        println!("entries: {losing} losing, {pending} pending, {winning} winning; largest number {}", self.largest);
+        let (propositions, goals) = (self.labels_possible.len(), self.goals.len());
+        println!("good jobs had {propositions} of 7 counts of propositions, {goals} of 32 counts of goal states");
+        println!("oracle compared with the meaning itself: {} jobs", self.brute);
+        println!("{} inputs agree", self.inputs);
+    }
+}

@@ -1,0 +1,84 @@
+//! Runs the library against an independent planner on many inputs, or times it beside others.
+
+mod bench;
+mod brute;
+mod check;
+mod fence;
+mod library;
+mod make;
+mod oracle;
+mod random;
+mod report;
+mod trap;
+
+use check::Desk;
+use make::Inputs;
+use std::io::Read;
+use std::time::Instant;
+
+const SEED: u64 = 20_251_115;
+/// Inputs of the ordinary run, beyond the fixed ones.
+const MIXED: u64 = 220_000;
+
+const USE: &str = "\
+cabinet-tests run [SEED]           the ordinary run
+cabinet-tests soak N [SEED]        N inputs, the fixed ones first
+cabinet-tests again SEED NUMBER    one input of a run once more
+cabinet-tests bench [DATE]         times beside other planners (or the date in BENCH_DATE)
+cabinet-tests list                 the oracle's listing of the job on standard input";
+
+/// Tries the inputs with these numbers and prints the counts.
+fn tried(inputs: &Inputs, seed: u64, numbers: std::ops::Range<u64>) {
+    println!("seed {seed}");
+    check::known();
+    let start = Instant::now();
+    let mut desk = Desk::new();
+    for number in numbers.clone() {
+        desk.check(&inputs.get(number));
+    }
+    let seconds = start.elapsed().as_secs_f64();
+    let count = numbers.end - numbers.start;
+    println!("{seconds:.1} seconds, {:.0} inputs a second", count as f64 / seconds);
+    desk.tally.print();
+}
+
+fn list() {
+    let mut input = Vec::new();
+    std::io::stdin().read_to_end(&mut input).expect("standard input can be read");
+    print!("{}", oracle::listing(&input));
+}
+
+fn command(words: &[String]) -> Option<()> {
+    let figure = |index: usize| words.get(index).map(|word| word.parse::<u64>().ok());
+    let seed_at = |index: usize| figure(index).unwrap_or(Some(SEED));
+    match words.first()?.as_str() {
+        "run" => {
+            let seed = seed_at(1)?;
+            let inputs = Inputs::new(seed);
+            tried(&inputs, seed, 0..inputs.fixed() + MIXED);
+        }
+        "soak" => {
+            let (count, seed) = (figure(1)??, seed_at(2)?);
+            tried(&Inputs::new(seed), seed, 0..count);
+        }
+        "again" => {
+            let (seed, number) = (figure(1)??, figure(2)??);
+            tried(&Inputs::new(seed), seed, number..number + 1);
+        }
+        "bench" => {
+            let given = words.get(1).cloned().or_else(|| std::env::var("BENCH_DATE").ok());
+            bench::bench(&given.unwrap_or_else(|| "not given".to_string()));
+        }
+        "list" => list(),
+        _ => return None,
+    }
+    Some(())
+}
+
+fn main() {
+    let words: Vec<String> = std::env::args().skip(1).collect();
+    if command(&words).is_none() {
+        eprintln!("{USE}");
+        std::process::exit(2);
+    }
+}

@@ -1,0 +1,88 @@
+//! Jobs with long ways to go: a ring of states in which each round leads one goal state further.
+
+use super::parts::Parts;
+use super::valid::{in_order, Size};
+use crate::random::Random;
+
+/// What makes the way uncertain.
+#[derive(Clone, Copy, PartialEq, Eq)]
+pub enum Doubt {
+    /// Nothing: every place is winning.
+    None,
+    /// The last state of the ring may hold its place for ever.
+    AtTheEnd,
+    /// Some other state may.
+    Somewhere,
+}
+
+/// A ring with numbers from 1 to states * (goals - 1), and exactly so many moves where there are enough to choose from.
+pub fn job(random: &mut Random, size: Size, doubt: Doubt) -> Parts {
+    let mut ring: Vec<u8> = (0..size.states as u8).collect();
+    let mut goals: Vec<u8> = (0..size.goals as u8).collect();
+    random.shuffle(&mut ring);
+    random.shuffle(&mut goals);
+    let start = ring[random.below(2).min(size.states - 1)];
+    let size = Size { propositions: size.propositions.max(1), ..size };
+    let counts = [size.states, size.actions, size.propositions, size.goals].map(|count| count as u8);
+    Parts {
+        counts: [&counts[..], &[start, goals[0]]].concat(),
+        labels: labels(random, size, ring[0]),
+        moves: moves(random, size, doubt, &ring),
+        goal: goal(size, &goals),
+    }
+}
+
+/// Proposition 0 is true only in the ring's first state; the others are true anywhere.
+fn labels(random: &mut Random, size: Size, first: u8) -> Vec<u8> {
+    let label = |state| (random.below(1 << size.propositions) as u8 & !1) | u8::from(state == first);
+    (0..size.states as u8).map(label).collect()
+}
+
+/// Each reading of proposition 0 leads one goal state further, to the last one, which alone is final.
+fn goal(size: Size, goals: &[u8]) -> Vec<u8> {
+    let last = size.goals - 1;
+    let mut table = vec![0; size.goals << size.propositions];
+    let mut marks = vec![0; size.goals];
+    for (index, &goal) in goals.iter().enumerate() {
+        for label in 0..1 << size.propositions {
+            let next = (index + (label & 1)).min(last);
+            table[(usize::from(goal) << size.propositions) + label] = goals[next];
+        }
+        marks[usize::from(goal)] = u8::from(index == last);
+    }
+    [table, marks].concat()
+}
+
+fn moves(random: &mut Random, size: Size, doubt: Doubt, ring: &[u8]) -> Vec<u8> {
+    let onward = random.below(size.actions) as u8;
+    let at = |index: usize| ring[index % ring.len()];
+    let mut records: Vec<[u8; 3]> = (0..ring.len()).map(|index| [at(index), onward, at(index + 1)]).collect();
+    match doubt {
+        Doubt::None => {}
+        Doubt::AtTheEnd => records.push([at(ring.len() - 1), onward, at(ring.len() - 1)]),
+        Doubt::Somewhere => {
+            let index = random.below(ring.len());
+            records.push([at(index), onward, at(index)]);
+        }
+    }
+    let mut others = no_help(size, ring, onward, doubt == Doubt::None);
+    random.shuffle(&mut others);
+    others.truncate(size.moves.saturating_sub(records.len()));
+    records.extend(others);
+    in_order(random, records, 4_096)
+}
+
+/// Records that change no number: back along the ring, and leaps of the onward action when every place is winning.
+fn no_help(size: Size, ring: &[u8], onward: u8, leaps: bool) -> Vec<[u8; 3]> {
+    let mut records = Vec::new();
+    for (from, &state) in ring.iter().enumerate() {
+        for &back in &ring[1.min(from)..=from] {
+            let others = (0..size.actions as u8).filter(|&action| from > 0 && action != onward);
+            records.extend(others.map(|action| [state, action, back]));
+        }
+        if leaps {
+            records.extend(ring.iter().skip(from + 2).map(|&leap| [state, onward, leap]));
+        }
+    }
+    records
+}

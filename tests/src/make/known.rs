@@ -1,0 +1,80 @@
+//! The jobs that the rules give in full, and the edges that they name, with the refusal due to each.
+
+use super::parts::Parts;
+
+/// One plate: drawer, stage, just exposed, broken.
+pub fn one_plate() -> Vec<u8> {
+    vec![
+        0x10, 0x00, 0x06, 0x00, 0x16, 0x00, 0x04, 0x00, 0x1A, 0x00, 0x12, 0x00, 0x2C, 0x00, 0x0F, 0x00, // contents
+        0x04, 0x03, 0x02, 0x03, 0x00, 0x00, // counts
+        0x02, 0x00, 0x01, 0x00, // labels
+        0x00, 0x00, 0x01, 0x00, 0x00, 0x03, 0x01, 0x01, 0x01, // moves
+        0x01, 0x01, 0x02, 0x01, 0x02, 0x00, 0x02, 0x02, 0x00, // more moves
+        0x00, 0x01, 0x00, 0x01, 0x01, 0x01, 0x02, 0x02, 0x02, 0x02, 0x02, 0x02, 0x00, 0x00, 0x01, // goal
+    ]
+}
+
+pub const ONE_PLATE_TEXT: &str = "\
+start 0 0 pending
+0 0 pending 0 2
+0 1 pending 0 1
+0 2 winning - 0
+1 0 pending 1 1
+1 1 winning 2 1
+1 2 winning - 0
+2 0 pending 2 3
+2 1 winning 2 1
+2 2 winning - 0
+3 0 losing - 0
+3 1 losing - 0
+3 2 winning - 0
+";
+
+pub fn bare(mark: u8) -> Vec<u8> {
+    Parts { counts: vec![1, 1, 0, 1, 0, 0], labels: vec![0], moves: vec![], goal: vec![0, mark] }.bytes()
+}
+
+pub fn early() -> Vec<u8> {
+    Parts { counts: vec![1, 1, 0, 2, 0, 0], labels: vec![0], moves: vec![], goal: vec![1, 1, 1, 0] }.bytes()
+}
+
+/// A job without a final mark, whose tables are zero and fit these counts.
+fn blank(states: u8, actions: u8, propositions: u8, goals: u8) -> Parts {
+    let mut parts = Parts { counts: vec![states, actions, propositions, goals, 0, 0], ..Parts::default() };
+    parts.fit();
+    parts
+}
+
+/// So many different records in order, for 128 states and 16 actions.
+fn many_moves(count: usize) -> Vec<u8> {
+    let record = |index: usize| [(index / 2_048) as u8, (index / 128 % 16) as u8, (index % 128) as u8];
+    (0..count).flat_map(record).collect()
+}
+
+pub fn edges() -> Vec<(Vec<u8>, u32)> {
+    let moves = |moves: Vec<u8>| Parts { moves, ..blank(128, 16, 0, 1) }.bytes();
+    let label = |label: u8| Parts { labels: vec![label, 0], ..blank(2, 1, 3, 1) }.bytes();
+    let wide_offset = Parts { labels: vec![0; 65_535 - 25], ..blank(1, 1, 0, 1) };
+    vec![
+        (vec![], 1),
+        (one_plate()[..15].to_vec(), 1),
+        (vec![0; 15], 1),
+        (vec![0; 16], 2),
+        (blank(128, 1, 0, 1).bytes(), 0),
+        (blank(129, 1, 0, 1).bytes(), 3),
+        (blank(1, 16, 0, 1).bytes(), 0),
+        (blank(1, 17, 0, 1).bytes(), 3),
+        (blank(1, 1, 6, 1).bytes(), 0),
+        (blank(1, 1, 7, 1).bytes(), 3),
+        (blank(1, 1, 0, 32).bytes(), 0),
+        (blank(1, 1, 0, 33).bytes(), 3),
+        (blank(128, 16, 6, 32).bytes(), 0),
+        (label(7), 0),
+        (label(8), 4),
+        (moves(many_moves(2)), 0),
+        (moves(vec![1, 1, 1, 1, 1, 1]), 5),
+        (moves(many_moves(4_096)), 0),
+        (moves(many_moves(4_097)), 5),
+        (wide_offset.bytes(), 4),
+    ]
+}

@@ -1,0 +1,189 @@
+//! All inputs of a run, each made from the seed and its number alone.
+
+mod chain;
+mod damage;
+pub mod known;
+mod parts;
+mod valid;
+mod wild;
+
+use crate::random::Random;
+use crate::report::Input;
+pub use chain::Doubt;
+use parts::Parts;
+pub use valid::Size;
+
+const TINY: Size = Size { states: 3, actions: 3, propositions: 2, goals: 3, moves: 7 };
+const SMALL: Size = Size { states: 8, actions: 5, propositions: 3, goals: 6, moves: 24 };
+const MIDDLING: Size = Size { states: 40, actions: 16, propositions: 6, goals: 12, moves: 500 };
+const FULL: Size = Size { states: 128, actions: 16, propositions: 6, goals: 32, moves: 4_096 };
+
+/// The longest job there is, 14,518 bytes.
+pub fn longest(seed: u64) -> Vec<u8> {
+    // Some manners of making moves give fewer of them: the first seed that gives all is taken.
+    (0..)
+        .map(|number| valid::job(&mut Random::new(seed, number), FULL))
+        .find(|parts| parts.moves.len() == 12_288 && parts.goal[parts.goal.len() - 32..].contains(&1))
+        .expect("some seed gives every move")
+        .bytes()
+}
+
+/// As long, with numbers as large as they can be.
+pub fn deepest(seed: u64, doubt: Doubt) -> Vec<u8> {
+    chain::job(&mut Random::new(seed, 1), FULL, doubt).bytes()
+}
+
+pub fn middling(seed: u64) -> Vec<u8> {
+    let size = Size { states: 32, actions: 8, propositions: 3, goals: 8, moves: 512 };
+    chain::job(&mut Random::new(seed, 2), size, Doubt::Somewhere).bytes()
+}
+
+pub struct Inputs {
+    seed: u64,
+    fixed: Vec<(&'static str, Vec<u8>)>,
+}
+
+impl Inputs {
+    pub fn new(seed: u64) -> Inputs {
+        let mut fixed = vec![
+            ("job given in full", known::one_plate()),
+            ("job given in full", known::bare(0)),
+            ("job given in full", known::bare(1)),
+            ("job given in full", known::early()),
+            ("longest", longest(seed)),
+            ("deepest", deepest(seed, Doubt::None)),
+            ("deepest", deepest(seed, Doubt::AtTheEnd)),
+        ];
+        fixed.extend(known::edges().into_iter().map(|(job, _)| ("edge", job)));
+        fixed.extend(changes().into_iter().map(|job| ("One plate, one byte changed", job)));
+        fixed.extend(other_lengths().into_iter().map(|job| ("One plate, cut or longer", job)));
+        Inputs { seed, fixed }
+    }
+
+    /// How many inputs are the same for every seed, or nearly so, and come first.
+    pub fn fixed(&self) -> u64 {
+        self.fixed.len() as u64
+    }
+
+    pub fn get(&self, number: u64) -> Input {
+        let (kind, job) = match self.fixed.get(number as usize) {
+            Some((kind, job)) => (*kind, job.clone()),
+            None => mixed(&mut Random::new(self.seed, number)),
+        };
+        Input { seed: self.seed, number, kind, job }
+    }
+}
+
+/// Every other value of every byte of One plate.
+fn changes() -> Vec<Vec<u8>> {
+    let plate = known::one_plate();
+    let mut jobs = Vec::new();
+    for at in 0..plate.len() {
+        for value in (0..=255).filter(|&value| value != plate[at]) {
+            let mut job = plate.clone();
+            job[at] = value;
+            jobs.push(job);
+        }
+    }
+    jobs
+}
+
+/// Every beginning of One plate, every byte after it, and every byte left out or doubled.
+fn other_lengths() -> Vec<Vec<u8>> {
+    let plate = known::one_plate();
+    let mut jobs: Vec<Vec<u8>> = (0..plate.len()).map(|length| plate[..length].to_vec()).collect();
+    jobs.extend((0..=255).map(|byte| [&plate[..], &[byte]].concat()));
+    jobs.extend((0..plate.len()).map(|at| [&plate[..at], &plate[at + 1..]].concat()));
+    jobs.extend((0..plate.len()).map(|at| [&plate[..at], &plate[at..=at], &plate[at..]].concat()));
+    jobs
+}
+
+/// A good job to start from when something is to be spoilt.
+fn sound(random: &mut Random) -> Parts {
+    let limit = match random.below(100) {
+        0 => MIDDLING,
+        1..=30 => TINY,
+        _ => SMALL,
+    };
+    let size = limit.upto(random);
+    valid::job(random, size)
+}
+
+fn chained(random: &mut Random) -> Vec<u8> {
+    let doubt = random.pick(&[Doubt::None, Doubt::AtTheEnd, Doubt::Somewhere]);
+    let wide = random.once_in(60);
+    let limit = Size {
+        states: if wide { 40 } else { 9 },
+        actions: 16,
+        propositions: 6,
+        goals: if wide { 16 } else { 32 },
+        moves: if wide { 160 } else { 40 },
+    };
+    let size = limit.upto(random);
+    chain::job(random, size, doubt).bytes()
+}
+
+/// Any counts at all, with moves that stay few.
+fn any_counts(random: &mut Random) -> Vec<u8> {
+    let size = Size { moves: 60, ..FULL }.upto(random);
+    valid::job(random, size).bytes()
+}
+
+fn large(random: &mut Random) -> Vec<u8> {
+    let states = random.pick(&[16, 64, 127, 128, 128]);
+    let goals = random.pick(&[1, 16, 31, 32, 32]);
+    let moves = random.pick(&[0, 1_000, 4_095, 4_096, 4_096]);
+    let size = Size { states, actions: random.pick(&[1, 7, 16]), propositions: random.below(7), goals, moves };
+    valid::job(random, size).bytes()
+}
+
+fn spoilt(random: &mut Random, faults: usize) -> Vec<u8> {
+    let mut parts = sound(random);
+    let in_parts = random.between(usize::from(faults == 1), faults);
+    (0..in_parts).for_each(|_| damage::spoil(random, &mut parts));
+    let mut job = parts.bytes();
+    (in_parts..faults).for_each(|_| damage::spoil_bytes(random, &mut job));
+    job
+}
+
+/// A good job with up to three bytes changed anywhere.
+fn changed(random: &mut Random) -> Vec<u8> {
+    let mut job = if random.once_in(2) { known::one_plate() } else { sound(random).bytes() };
+    for _ in 0..random.between(1, 3) {
+        let at = random.below(job.len());
+        job[at] = if random.once_in(2) { random.byte() } else { random.below(5) as u8 };
+    }
+    job
+}
+
+/// One input by chance, with its kind.
+fn mixed(random: &mut Random) -> (&'static str, Vec<u8>) {
+    let sized = |random: &mut Random, limit: Size| {
+        let size = limit.upto(random);
+        valid::job(random, size).bytes()
+    };
+    match random.below(1_000) {
+        0..=259 => ("tiny", sized(random, TINY)),
+        260..=509 => ("small", sized(random, SMALL)),
+        510..=529 => ("middling", sized(random, MIDDLING)),
+        530..=549 => ("any counts", any_counts(random)),
+        550..=599 => ("long way", chained(random)),
+        600 => ("large", large(random)),
+        601..=760 => ("one fault in a body", spoilt(random, 1)),
+        761..=800 => ("one fault in the contents", {
+            let mut job = sound(random).bytes();
+            damage::spoil_bytes(random, &mut job);
+            job
+        }),
+        801..=880 => ("several faults", {
+            let faults = random.between(2, 4);
+            spoilt(random, faults)
+        }),
+        881..=940 => ("bytes changed", changed(random)),
+        941..=980 => ("random bytes", wild::bytes(random)),
+        _ => ("near or beyond 65,535", {
+            let parts = sound(random);
+            wild::far(random, parts)
+        }),
+    }
+}

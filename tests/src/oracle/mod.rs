@@ -1,0 +1,34 @@
+//! The independent planner: what each call has to answer, worked out backward from the accepted places.
+
+mod calls;
+mod listing;
+mod plan;
+mod read;
+mod refusal;
+mod waves;
+
+pub use listing::listing;
+pub use plan::{entries, Entry, LOSING, PENDING, WINNING};
+pub use read::{read, Job};
+pub use refusal::*;
+
+/// Everything that the calls answer on one string of job bytes.
+pub struct Oracle {
+    pub job: Result<Job, u32>,
+    pub entries: Vec<Entry>,
+    pub plan: Vec<u8>,
+}
+
+impl Oracle {
+    pub fn new(bytes: &[u8]) -> Oracle {
+        let job = read(bytes);
+        let entries = job.as_ref().map(entries).unwrap_or_default();
+        let plan = entries.iter().flat_map(Entry::bytes).collect();
+        Oracle { job, entries, plan }
+    }
+
+    /// The refusal of the job itself, 0 when it is good.
+    pub fn refusal(&self) -> u32 {
+        self.job.as_ref().err().copied().unwrap_or(0)
+    }
+}

@@ -1,0 +1,127 @@
+//! Reads a job from bytes, or says which refusal from 1 to 6 comes first.
+
+use super::refusal::*;
+use std::ops::Range;
+
+#[derive(Clone, Copy, PartialEq, Eq, PartialOrd, Ord)]
+pub struct Move {
+    pub state: usize,
+    pub action: usize,
+    pub outcome: usize,
+}
+
+pub struct Job {
+    pub states: usize,
+    pub actions: usize,
+    pub labels_possible: usize,
+    pub goals: usize,
+    pub first_state: usize,
+    pub first_goal: usize,
+    pub labels: Vec<usize>,
+    pub moves: Vec<Move>,
+    /// Next goal state: goal state times possible labels plus label.
+    pub next: Vec<usize>,
+    pub last: Vec<bool>,
+    /// Where the records of each state lie in the moves.
+    of_state: Vec<Range<usize>>,
+}
+
+impl Job {
+    pub fn places(&self) -> usize {
+        self.states * self.goals
+    }
+
+    pub fn place(&self, state: usize, goal: usize) -> usize {
+        state * self.goals + goal
+    }
+
+    /// The goal state that follows when this outcome's label is read.
+    pub fn goal_after(&self, goal: usize, outcome: usize) -> usize {
+        self.next[goal * self.labels_possible + self.labels[outcome]]
+    }
+
+    pub fn moves_of(&self, state: usize) -> &[Move] {
+        &self.moves[self.of_state[state].clone()]
+    }
+
+    /// The outcomes listed for a state and an action; none when the action is not open.
+    pub fn outcomes(&self, state: usize, action: usize) -> impl Iterator<Item = usize> + '_ {
+        let own = self.moves_of(state).iter();
+        own.filter(move |record| record.action == action).map(|record| record.outcome)
+    }
+}
+
+/// The four bodies, cut out by the table of contents.
+fn bodies(job: &[u8]) -> Result<[&[u8]; 4], u32> {
+    if job.len() < 16 {
+        return Err(SHORT);
+    }
+    let figure = |at: usize| usize::from(job[at]) + 256 * usize::from(job[at + 1]);
+    let mut bodies = [&job[..0]; 4];
+    let mut end = 16;
+    for (index, body) in bodies.iter_mut().enumerate() {
+        let (offset, length) = (figure(4 * index), figure(4 * index + 2));
+        if offset != end || length > job.len() - end {
+            return Err(CONTENTS);
+        }
+        *body = &job[end..end + length];
+        end += length;
+    }
+    if end != job.len() || bodies[0].len() != 6 {
+        return Err(CONTENTS);
+    }
+    Ok(bodies)
+}
+
+fn read_counts(body: &[u8]) -> Result<[usize; 6], u32> {
+    let count = |index: usize| usize::from(body[index]);
+    let (states, goals) = (count(0), count(3));
+    let good = (1..=128).contains(&states)
+        && (1..=16).contains(&count(1))
+        && count(2) <= 6
+        && (1..=32).contains(&goals)
+        && count(4) < states
+        && count(5) < goals;
+    let counts = [states, count(1), count(2), goals, count(4), count(5)];
+    good.then_some(counts).ok_or(COUNTS)
+}
+
+fn read_labels(body: &[u8], states: usize, possible: usize) -> Result<Vec<usize>, u32> {
+    let labels: Vec<usize> = body.iter().map(|&byte| byte.into()).collect();
+    let good = labels.len() == states && labels.iter().all(|&label| label < possible);
+    good.then_some(labels).ok_or(LABELS)
+}
+
+fn read_moves(body: &[u8], states: usize, actions: usize) -> Result<Vec<Move>, u32> {
+    if body.len() % 3 != 0 || body.len() > 12_288 {
+        return Err(MOVES);
+    }
+    let record = |at: &[u8]| Move { state: at[0].into(), action: at[1].into(), outcome: at[2].into() };
+    let moves: Vec<Move> = body.chunks(3).map(record).collect();
+    let inside = |one: &Move| one.state < states && one.action < actions && one.outcome < states;
+    let good = moves.iter().all(inside) && moves.windows(2).all(|two| two[0] < two[1]);
+    good.then_some(moves).ok_or(MOVES)
+}
+
+/// The table of next goal states and the marks.
+fn read_goal(body: &[u8], goals: usize, possible: usize) -> Result<(Vec<usize>, Vec<bool>), u32> {
+    if body.len() != goals * possible + goals {
+        return Err(GOAL);
+    }
+    let (table, marks) = body.split_at(goals * possible);
+    let good = table.iter().all(|&next| usize::from(next) < goals) && marks.iter().all(|&mark| mark <= 1);
+    let read = (table.iter().map(|&next| next.into()).collect(), marks.iter().map(|&mark| mark == 1).collect());
+    good.then_some(read).ok_or(GOAL)
+}
+
+pub fn read(job: &[u8]) -> Result<Job, u32> {
+    let [counts, labels, moves, goal] = bodies(job)?;
+    let [states, actions, propositions, goals, first_state, first_goal] = read_counts(counts)?;
+    let labels_possible = 1 << propositions;
+    let labels = read_labels(labels, states, labels_possible)?;
+    let moves = read_moves(moves, states, actions)?;
+    let (next, last) = read_goal(goal, goals, labels_possible)?;
+    let before = |state: usize| moves.partition_point(|record| record.state < state);
+    let of_state = (0..states).map(|state| before(state)..before(state + 1)).collect();
+    Ok(Job { states, actions, labels_possible, goals, first_state, first_goal, labels, moves, next, last, of_state })
+}
