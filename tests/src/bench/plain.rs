@@ -14,6 +14,10 @@ impl Set {
     fn add(&mut self, place: usize) {
         self.0[place / 64] |= 1 << (place % 64);
     }
+
+    fn size(&self) -> u32 {
+        self.0.iter().map(|word| word.count_ones()).sum()
+    }
 }
 
 pub struct Job<'a> {
@@ -93,7 +97,7 @@ fn possible(job: &Job, records: &[[u8; 3]], goal: usize, set: &Set) -> u16 {
     })
 }
 
-/// Adds places to the set in rounds until a round adds none, each with this value and the lowest action that does.
+/// Adds places to the set in rounds until its size stays, each with this value and the lowest action that does.
 fn rounds(
     job: &Job,
     plan: &mut [[u8; 4]],
@@ -101,6 +105,7 @@ fn rounds(
     value: u8,
     good: impl Fn(&Job, &[[u8; 3]], usize, &Set) -> u16,
 ) {
+    let mut few = set.size();
     for number in 1_u16.. {
         let before = *set;
         for (records, state) in job.moves.chunk_by(|one, other| one[0] == other[0]).map(|list| (list, list[0][0])) {
@@ -117,9 +122,11 @@ fn rounds(
                 }
             }
         }
-        if set.0 == before.0 {
+        let more = set.size();
+        if more == few {
             return;
         }
+        few = more;
     }
 }
 
