@@ -2,3 +2,5 @@
 pub mod Answering
 pub mod Starting
 pub mod Unique
+pub mod Demands
+pub mod Advising

@@ -1,0 +1,72 @@
+-- Advice on our own plan is never refused at a place: what is right has one of the four shapes.
+use Prim.Native.Nat.{ℕ, zero, suc, _≤_, _<_}
+use mathlib.Core.Bool.{Bool, true, false, _||_}
+use mathlib.Core.List.{List}
+use mathlib.Core.Path.{_≡_, refl, _∙_}
+use native.Mathlib.Omega.{arith}
+use borrow.Author.Tests.{eq-eqb, lt-ltb, le-ltb, le-leb}
+use lib.ListN.{length, drop, length-append}
+use Rattle.rules.specs.Game.{Inside, Right, lost, met, wins, hopes, says}
+use Rattle.rules.specs.Job.{place, places, arena}
+use Rattle.rules.specs.Bytes.{refusal, said}
+use Rattle.rules.specs.Keeps.{Keeps}
+use Rattle.rules.specs.Plan.{room, blank, due, shaped}
+use Rattle.rules.specs.Calls.{Planning, refused, no-room, overrun, planned, is-place, advice-of, advised}
+use Rattle.rules.specs.declared.place.Place.{Place}
+use Rattle.rules.specs.declared.entry.Entry.{Entry}
+use Rattle.rules.proofs.Search.{clash}
+use Rattle.rules.proofs.Rounds.{win}
+use Rattle.rules.proofs.Values.{wins-iff}
+use Rattle.rules.proofs.Bounds.{wins-below, hopes-below}
+use Rattle.rules.proofs.Entries.{shaped-winning, shaped-pending}
+use Rattle.rules.proofs.Tests.{and-iff, ltb-iff}
+use Rattle.rules.proofs.Kept.{kept}
+use Rattle.rules.proofs.Arenas.{inside-iff, size-of, arena-lawful}
+use Rattle.labelling.proofs.Demands.{entry-of, planned-exactly, planned-right}
+
+due-true : (A n a k : ℕ) (v : ℕ) → a < A → 1 ≤ k → k < n → due A n (says v a k) ≡ true
+due-true A n a k v h i j = rw (lt-ltb a A h, le-leb 1 k i, lt-ltb k n j)
+
+or-last : (x y : Bool) → y ≡ true → (x || y) ≡ true
+or-last true y e = refl
+or-last false y e = e
+
+pub right-shaped : {b : List ℕ} → Keeps b → (p : Place) → Inside (arena (said b)) p → {x : Entry} → Right (arena (said b)) p x
+    → shaped (said b .actions) (places (said b)) x ≡ true
+unfolding win
+right-shaped k p i (lost l) = refl
+right-shaped k p i (met y) = refl
+right-shaped {b} k p i (wins {a} {n = zero} u w s) = absurd (clash (wins-iff (arena (said b)) (arena-lawful b k) 0 p .0 w .0) u)
+right-shaped {b} k p i (wins {a} {n = suc n} u w s) =
+    let L = arena-lawful b k in
+    let o = s .0 .0 in
+    let below = wins-below (arena (said b)) L (suc n) p i w in
+    shaped-winning (said b .actions) (places (said b)) (says 2 a (suc n)) refl
+    ∙ or-last (blank (says 2 a (suc n))) (due (said b .actions) (places (said b)) (says 2 a (suc n)))
+    (due-true (said b .actions) (places (said b)) a (suc n) 2 (L .counted p (o .0) a (o .1)) (omega arith) (omega (arith, size-of (said b))))
+right-shaped {b} k p i (hopes {a} {n = zero} h m s) = absurd (h .0 (m .0 .3))
+right-shaped {b} k p i (hopes {a} {n = suc n} h m s) =
+    let L = arena-lawful b k in
+    let t = s .0 in
+    let below = hopes-below (arena (said b)) L (suc n) p i m in
+    shaped-pending (said b .actions) (places (said b)) (says 1 a (suc n)) refl
+    ∙ due-true (said b .actions) (places (said b)) a (suc n) 1 (L .counted p (t .0) a (t .1)) (omega arith) (omega (arith, size-of (said b)))
+
+planned-long : {b before after : List ℕ} {r : ℕ} → Planning b before r after → r ≡ 0 → room (said b) ≤ length after
+planned-long (refused n) z = absurd (n z)
+planned-long (no-room e l) z = absurd (omega arith)
+planned-long (overrun e l o) z = absurd (omega arith)
+planned-long {b} {before} (planned {p} e l n plan) z = omega (arith, plan .long, length-append p (drop (room (said b)) before))
+
+-- What advice answers of each place of a plan just made is the plan's entry.
+pub advice-planned : {b before after : List ℕ} → Planning b before 0 after → (s q : ℕ) → is-place (said b) s q ≡ true
+    → advised b after s q ≡ advice-of (entry-of b after (place s q))
+advice-planned {b} {before} {after} done s q p =
+    let k = planned-exactly done .0 refl .0 in
+    let i = inside-iff (said b) (place s q) .1 (and-iff (ltb-iff s (said b .states)) (ltb-iff q (said b .goals)) .0 p) in
+    rw (
+      eq-eqb (refusal b) 0 (kept b .1 k),
+      le-ltb (length after) (room (said b)) (planned-long done refl),
+      p,
+      right-shaped k (place s q) i (planned-right done refl (place s q) i),
+    )
