@@ -1,0 +1,2 @@
+-- What the promises of the reader are said with.
+pub mod Handed
