@@ -70,7 +70,11 @@ impl Fence {
     /// Where a buffer of this length begins, counted from the first byte inside.
     pub fn offset(&self, side: Side, length: usize) -> usize {
         assert!(length <= self.size, "a buffer longer than the memory between fences");
-        if side == Side::End { self.size - length } else { 0 }
+        if side == Side::End {
+            self.size - length
+        } else {
+            0
+        }
     }
 
     pub fn lend(&self, side: Side, length: usize) -> Lent {

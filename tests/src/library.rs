@@ -30,14 +30,7 @@ struct Advised {
 extern "C" {
     fn cabinet_plan(job: *const u8, job_len: usize, plan: *mut u8, plan_len: usize) -> Planned;
     fn cabinet_start(job: *const u8, job_len: usize) -> Moved;
-    fn cabinet_follow(
-        job: *const u8,
-        job_len: usize,
-        state: u32,
-        goal: u32,
-        action: u32,
-        outcome: u32,
-    ) -> Moved;
+    fn cabinet_follow(job: *const u8, job_len: usize, state: u32, goal: u32, action: u32, outcome: u32) -> Moved;
     fn cabinet_advice(
         job: *const u8,
         job_len: usize,

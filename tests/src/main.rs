@@ -27,8 +27,8 @@ cabinet-tests again SEED NUMBER    one input of a run once more
 cabinet-tests bench [DATE]         times beside other planners (or the date in BENCH_DATE)
 cabinet-tests list                 the oracle's listing of the job on standard input";
 
-/// Tries the inputs with these numbers and prints the counts.
-fn tried(inputs: &Inputs, seed: u64, numbers: std::ops::Range<u64>) {
+/// Tries the inputs with these numbers, prints the counts and says whether everything has come up.
+fn tried(inputs: &Inputs, seed: u64, numbers: std::ops::Range<u64>) -> bool {
     println!("seed {seed}");
     check::known();
     let start = Instant::now();
@@ -40,6 +40,7 @@ fn tried(inputs: &Inputs, seed: u64, numbers: std::ops::Range<u64>) {
     let count = numbers.end - numbers.start;
     println!("{seconds:.1} seconds, {:.0} inputs a second", count as f64 / seconds);
     desk.tally.print();
+    desk.tally.covered()
 }
 
 fn list() {
@@ -55,7 +56,10 @@ fn command(words: &[String]) -> Option<()> {
         "run" => {
             let seed = seed_at(1)?;
             let inputs = Inputs::new(seed);
-            tried(&inputs, seed, 0..inputs.fixed() + MIXED);
+            if !tried(&inputs, seed, 0..inputs.fixed() + MIXED) {
+                println!("but not every answer, value and count has come up");
+                std::process::exit(1);
+            }
         }
         "soak" => {
             let (count, seed) = (figure(1)??, seed_at(2)?);

@@ -29,7 +29,8 @@ module _ (G : Arena) (L : Lawful G) where
   ahead-is k t u = rw u
 
   -- The number of a winning place is at most how many places are inside, winning and not accepted.
-  pub wins-within : (n : ℕ) (p : G .Place) → Inside G p → WinsIn G p n → (ws : List (G .Place)) → ((t : G .Place) → Inside G t → Winning G t → Unmet G t → List·Memᴰ t ws) → n ≤ length ws
+  pub wins-within : (n : ℕ) (p : G .Place) → Inside G p → WinsIn G p n → (ws : List (G .Place))
+      → ((t : G .Place) → Inside G t → Winning G t → Unmet G t → List·Memᴰ t ws) → n ≤ length ws
   wins-within n p i w ws h =
       let most : count (ahead zero) ws + n ≤ count (ahead n) ws = climb ahead ahead-up ws n step in
       let fits : count (ahead n) ws ≤ length ws = count-length (ahead n) ws in

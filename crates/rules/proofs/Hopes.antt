@@ -23,7 +23,8 @@ module _ (G : Arena) (L : Lawful G) where
 
   module _ (S : G .Place → Bool) where
     -- what a play comes to in n moves is in reach within n
-    pub reach-hope : (σ : Way G) (n : ℕ) (h : Play (G .Place)) (o : ℕ → G .Place) → Obeys G σ o h → S (last (run G σ o h n)) ≡ true → hope G S n (last h) ≡ true
+    pub reach-hope : (σ : Way G) (n : ℕ) (h : Play (G .Place)) (o : ℕ → G .Place) → Obeys G σ o h → S (last (run G σ o h n)) ≡ true
+        → hope G S n (last h) ≡ true
     unfolding hope
     reach-hope σ zero h o b e = e
     reach-hope σ (suc n) h o b e = go (next G σ h) (reach-hope σ n (advance G σ h (o zero)) (λ i. o (suc i)) (λ i a. b (suc i) a) e)
@@ -37,7 +38,8 @@ module _ (G : Arena) (L : Lawful G) where
       -- A way that names, where n + 1 moves are needed, an action after which n may do, may come to S in time. (D: the places that it has to do with)
       module _ (σ : Way G) (D : G .Place → Type 0)
           (guide : (h : Play (G .Place)) (n : ℕ) → D (last h) → Least (λ k. hope G S k (last h) ≡ true) (suc n) → (a : ℕ) × (t : G .Place) × (σ .choose h ≡ act a) × Listed G (last h) a t × D t × (hope G S n t ≡ true)) where
-        pub guided-comes : (n : ℕ) (h : Play (G .Place)) → D (last h) → Least (λ k. hope G S k (last h) ≡ true) n → (o : ℕ → G .Place) × Obeys G σ o h × (S (last (run G σ o h n)) ≡ true) × (made (run G σ o h n) ≡ made h + n)
+        pub guided-comes : (n : ℕ) (h : Play (G .Place)) → D (last h) → Least (λ k. hope G S k (last h) ≡ true) n
+            → (o : ℕ → G .Place) × Obeys G σ o h × (S (last (run G σ o h n)) ≡ true) × (made (run G σ o h n) ≡ made h + n)
         unfolding hope
         guided-comes zero h d l = let o = some-obeys G σ h in (o .0, o .1, l .0, omega arith)
         guided-comes (suc n) h d l =
@@ -60,9 +62,12 @@ module _ (G : Arena) (L : Lawful G) where
 
       pub hope-reaches : (n : ℕ) (p : G .Place) → Least (λ k. hope G S k p ≡ true) n → Reaches G (λ t. S t ≡ true) p n
       unfolding toward
-      hope-reaches n p l = let c = guided-comes (seek G (toward n) (toward-open n)) (λ q. hope G S n q ≡ true) guide n (begin p) (l .0) l in (seek G (toward n) (toward-open n), c .0, c .1, c .2)
+      hope-reaches n p l =
+          let c = guided-comes (seek G (toward n) (toward-open n)) (λ q. hope G S n q ≡ true) guide n (begin p) (l .0) l in
+          (seek G (toward n) (toward-open n), c .0, c .1, c .2)
         where
-          guide : (h : Play (G .Place)) (m : ℕ) → hope G S n (last h) ≡ true → Least (λ k. hope G S k (last h) ≡ true) (suc m) → (a : ℕ) × (t : G .Place) × (seek G (toward n) (toward-open n) .choose h ≡ act a) × Listed G (last h) a t × (hope G S n t ≡ true) × (hope G S m t ≡ true)
+          guide : (h : Play (G .Place)) (m : ℕ) → hope G S n (last h) ≡ true → Least (λ k. hope G S k (last h) ≡ true) (suc m)
+              → (a : ℕ) × (t : G .Place) × (seek G (toward n) (toward-open n) .choose h ≡ act a) × Listed G (last h) a t × (hope G S n t ≡ true) × (hope G S m t ≡ true)
           guide h m d k =
               let i = hope-into G S m (last h) k in
               let r : pred (lowest (λ k. hope G S k (last h)) (suc n)) ≡ m = ap pred (lowest-is (λ k. hope G S k (last h)) n (suc m) d k) in
@@ -70,7 +75,8 @@ module _ (G : Arena) (L : Lawful G) where
               let s = some-found (hope G S m) (G .leads (last h) (f .0)) (rw r at (f .2)) in
               (f .0, s .0, f .1, s .1, hope-mono G S m n (s .0) (let x : suc m ≤ n = k .1 n d in omega arith) (s .2), s .2)
 
-  pub hope-wider : (S T : G .Place → Bool) → ((p : G .Place) → S p ≡ true → T p ≡ true) → (n : ℕ) (p : G .Place) → hope G S n p ≡ true → hope G T n p ≡ true
+  pub hope-wider : (S T : G .Place → Bool) → ((p : G .Place) → S p ≡ true → T p ≡ true) → (n : ℕ) (p : G .Place) → hope G S n p ≡ true
+      → hope G T n p ≡ true
   unfolding hope
   hope-wider S T w zero p e = w p e
   hope-wider S T w (suc n) p e =
@@ -102,7 +108,9 @@ module _ (G : Arena) (L : Lawful G) where
   reaches-hopes n p m r = reach-hope (won G) (r .0) n (begin p) (r .1) (r .2) (winning-iff G L _ (run-inside (r .0) n (begin p) (r .1) m (r .2)) .0 (r .3))
 
   pub hopes-reaches : (n : ℕ) (p : G .Place) → Least (λ k. hoped G k p ≡ true) n → Reaches G (Winning G) p n
-  hopes-reaches n p l = let r = hope-reaches (won G) (λ q y. win-accepted G (size G) q y) n p l in (r .0, r .1, r .2, win-winning G L (size G) _ (r .3))
+  hopes-reaches n p l =
+      let r = hope-reaches (won G) (λ q y. win-accepted G (size G) q y) n p l in
+      (r .0, r .1, r .2, win-winning G L (size G) _ (r .3))
 
   -- The number of a place that can be hoped for is the round of hope that it comes in with.
   pub hopes-iff : (n : ℕ) (p : G .Place) → Inside G p → HopesIn G p n ↔ Least (λ k. hoped G k p ≡ true) n

@@ -35,22 +35,27 @@ module _ (G : Arena) (L : Lawful G) where
   sure-iff p n a = (λ s. sure-true _ _ (s .0) (λ t m. let w = s .1 t m in win-mono G L (w .0) n t (le-of-suc-le-suc (w .2)) (wins-iff G L (w .0) t .0 (w .1) .0)), λ e. let s = sure-at _ _ e in (s .0, λ t m. let l = has-lowest (λ k. win G k t) n (s .1 t m) in (l .0, wins-iff G L (l .0) t .1 (l .2), suc-le-suc (l .1))))
 
   -- a place that is first hoped for by n moves is winning, or pending with that number
-  hoped-kind : (t : G .Place) → Inside G t → (n : ℕ) → Least (λ k. hoped G k t ≡ true) n → ((suc n ≡ 1) × Winning G t) ⊎ ((m : ℕ) × (suc n ≡ suc m) × Pending G t × HopesIn G t m)
+  hoped-kind : (t : G .Place) → Inside G t → (n : ℕ) → Least (λ k. hoped G k t ≡ true) n
+      → ((suc n ≡ 1) × Winning G t) ⊎ ((m : ℕ) × (suc n ≡ suc m) × Pending G t × HopesIn G t m)
   unfolding hope
   hoped-kind t i zero l = inl (refl, win-winning G L (size G) t (l .0))
   hoped-kind t i (suc n) l = inr (suc n, refl, (λ w. let x : suc n ≤ 0 = l .1 0 (winning-iff G L t i .0 w) in omega arith, hopes-possible G L (suc n) t (l .0)), hopes-iff G L (suc n) t i .1 l)
 
   -- where n + 1 moves are hoped for, the hopeful actions are those that may lead to where n are
-  pub hopeful-iff : (p : G .Place) → Inside G p → (n : ℕ) → Least (λ k. hoped G k p ≡ true) (suc n) → (a : ℕ) → Hopeful G p (suc n) a ↔ (some (hoped G n) (G .leads p a) ≡ true)
+  pub hopeful-iff : (p : G .Place) → Inside G p → (n : ℕ) → Least (λ k. hoped G k p ≡ true) (suc n) → (a : ℕ)
+      → Hopeful G p (suc n) a ↔ (some (hoped G n) (G .leads p a) ≡ true)
   unfolding hope
   hopeful-iff p i n l a = (λ h. some-true _ _ (h .0) (h .1) (there h (L .closed p (h .0) a i (h .1)) (h .2)), back)
     where
-      there : (h : Hopeful G p (suc n) a) → Inside G (h .0) → ((suc n ≡ 1) × Winning G (h .0)) ⊎ ((m : ℕ) × (suc n ≡ suc m) × Pending G (h .0) × HopesIn G (h .0) m) → hoped G n (h .0) ≡ true
+      there : (h : Hopeful G p (suc n) a) → Inside G (h .0)
+          → ((suc n ≡ 1) × Winning G (h .0)) ⊎ ((m : ℕ) × (suc n ≡ suc m) × Pending G (h .0) × HopesIn G (h .0) m) → hoped G n (h .0) ≡ true
       there h j (inl w) = hope-mono G (won G) 0 n (h .0) zero-le (winning-iff G L (h .0) j .0 (w .1))
       there h j (inr k) = let e : k .0 ≡ n = (let q = k .1 in omega arith) in rw e at (hopes-iff G L (k .0) (h .0) j .0 (k .3) .0)
 
       back : some (hoped G n) (G .leads p a) ≡ true → Hopeful G p (suc n) a
-      back e = let t = some-found _ _ e in (t .0, t .1, hoped-kind (t .0) (L .closed p (t .0) a i (t .1)) n (hope-down G (won G) L n p (t .0) a l (t .1) (t .2)))
+      back e =
+          let t = some-found _ _ e in
+          (t .0, t .1, hoped-kind (t .0) (L .closed p (t .0) a i (t .1)) n (hope-down G (won G) L n p (t .0) a l (t .1) (t .2)))
 
   -- ---- there is an entry
 
@@ -101,7 +106,8 @@ module _ (G : Arena) (L : Lawful G) where
           winning (suc n) l = right-wins p n l
       go false u false w true h = rw (u, w, h, by-rounds) (pending (lowest (λ k. hoped G k p) (suc (size G))) (lowest-passes (λ k. hoped G k p) (size G) h))
         where
-          pending : (n : ℕ) → Least (λ k. hoped G k p ≡ true) n → Right G p (says 1 (lowest (λ a. some (hoped G (pred n)) (G .leads p a)) (G .actions)) n)
+          pending : (n : ℕ) → Least (λ k. hoped G k p ≡ true) n
+              → Right G p (says 1 (lowest (λ a. some (hoped G (pred n)) (G .leads p a)) (G .actions)) n)
           pending zero l = absurd (clash (l .0) w)
           pending (suc n) l = right-hopes p i n l
       go false u false w false h = rw (u, w, h, by-rounds) (right-loses p i h)

@@ -68,7 +68,8 @@ module _ (G : Arena) where
     win-mono m n p h e = stays (λ k. win G k p) (λ k. win-up k p) m n h e
 
     -- Where the goal is first forced within n + 1 moves, each action that keeps that promise may lead to a place where n moves are needed.
-    pub win-down : (n : ℕ) (p : G .Place) → Least (λ k. win G k p ≡ true) (suc n) → (i : Into n p) → (t : G .Place) × Listed G p (i .0) t × Least (λ k. win G k t ≡ true) n
+    pub win-down : (n : ℕ) (p : G .Place) → Least (λ k. win G k p ≡ true) (suc n) → (i : Into n p)
+        → (t : G .Place) × Listed G p (i .0) t × Least (λ k. win G k t ≡ true) n
     win-down zero p l i = let o = i .1 in (o .0, o .1, (i .2 (o .0) (o .1), λ m q. zero-le))
     win-down (suc n) p l i =
         let s : sure (λ t. win G n t) (G .leads p (i .0)) ≡ false = if-not-true _ (λ e. let h : suc (suc n) ≤ suc n = l .1 (suc n) (into-win n p (i .0, i .1, (sure-at _ _ e) .1)) in omega arith) in
@@ -79,7 +80,8 @@ module _ (G : Arena) where
     pub win-into : (n : ℕ) (p : G .Place) → Least (λ k. win G k p ≡ true) (suc n) → Into n p
     win-into n p l = ⊎-elim (λ e. let h : suc n ≤ zero = l .1 zero (win-accepted zero p e) in absurd (omega arith)) (λ i. i) (win-step n p (l .0))
 
-    win-down-inside : (n : ℕ) (p : G .Place) → Inside G p → Least (λ k. win G k p ≡ true) (suc n) → (t : G .Place) × Inside G t × Least (λ k. win G k t ≡ true) n
+    win-down-inside : (n : ℕ) (p : G .Place) → Inside G p → Least (λ k. win G k p ≡ true) (suc n)
+        → (t : G .Place) × Inside G t × Least (λ k. win G k t ≡ true) n
     win-down-inside n p m l = let t = win-down n p l (win-into n p l) in (t .0, L .closed p (t .0) _ m (t .1), t .2)
 
     -- inside, the rounds end before the places do
@@ -89,11 +91,13 @@ module _ (G : Arena) where
     pub win-settled : (n : ℕ) (p : G .Place) → Inside G p → win G n p ≡ true → won G p ≡ true
     win-settled n p m e = settled (win G) win-up (G .all) win-down-inside n p m e
 
-    pub win-ladder : (n : ℕ) (p : G .Place) → Inside G p → Least (λ k. win G k p ≡ true) n → (k : ℕ) → k ≤ n → (t : G .Place) × Inside G t × Least (λ i. win G i t ≡ true) k
+    pub win-ladder : (n : ℕ) (p : G .Place) → Inside G p → Least (λ k. win G k p ≡ true) n → (k : ℕ) → k ≤ n
+        → (t : G .Place) × Inside G t × Least (λ i. win G i t ≡ true) k
     win-ladder n p m l k h = ladder (win G) win-up (G .all) win-down-inside n p m l k h
 
     -- a round that adds no place inside is the last
-    pub win-closed : (n : ℕ) → ((t : G .Place) → Inside G t → win G (suc n) t ≡ true → win G n t ≡ true) → (m : ℕ) (p : G .Place) → Inside G p → win G m p ≡ true → win G n p ≡ true
+    pub win-closed : (n : ℕ) → ((t : G .Place) → Inside G t → win G (suc n) t ≡ true → win G n t ≡ true) → (m : ℕ) (p : G .Place) → Inside G p
+        → win G m p ≡ true → win G n p ≡ true
     win-closed n h m p i e = closed (win G) win-up (G .all) win-down-inside n h m p i e
 
     -- what a round adds
@@ -108,7 +112,8 @@ module _ (G : Arena) where
     pub hope-mono : (m n : ℕ) (p : G .Place) → m ≤ n → hope G S m p ≡ true → hope G S n p ≡ true
     hope-mono m n p h e = stays (λ k. hope G S k p) (λ k. hope-up k p) m n h e
 
-    pub hope-step : (n : ℕ) (p : G .Place) → hope G S (suc n) p ≡ true → (hope G S n p ≡ true) ⊎ ((a : ℕ) × (t : G .Place) × Listed G p a t × (hope G S n t ≡ true))
+    pub hope-step : (n : ℕ) (p : G .Place) → hope G S (suc n) p ≡ true
+        → (hope G S n p ≡ true) ⊎ ((a : ℕ) × (t : G .Place) × Listed G p a t × (hope G S n t ≡ true))
     unfolding hope
     hope-step n p e = go (hope G S n p) refl
       where
@@ -119,7 +124,8 @@ module _ (G : Arena) where
             let s = some-found _ _ (f .2) in
             inr (f .0, s .0, s .1, s .2)
 
-    pub hope-into : (n : ℕ) (p : G .Place) → Least (λ k. hope G S k p ≡ true) (suc n) → (a : ℕ) × (t : G .Place) × Listed G p a t × (hope G S n t ≡ true)
+    pub hope-into : (n : ℕ) (p : G .Place) → Least (λ k. hope G S k p ≡ true) (suc n)
+        → (a : ℕ) × (t : G .Place) × Listed G p a t × (hope G S n t ≡ true)
     hope-into n p l = ⊎-elim (λ e. absurd (clash e (not-yet (λ k. hope G S k p) n l))) (λ i. i) (hope-step n p (l .0))
 
     module _ (L : Lawful G) where
@@ -131,10 +137,12 @@ module _ (G : Arena) where
           go true z = rw (z, hope)
           go false z = rw (z, hope) (any-true _ _ a (L .counted p t a m) (some-true _ _ t m e))
 
-      pub hope-down : (n : ℕ) (p t : G .Place) (a : ℕ) → Least (λ k. hope G S k p ≡ true) (suc n) → Listed G p a t → hope G S n t ≡ true → Least (λ k. hope G S k t ≡ true) n
+      pub hope-down : (n : ℕ) (p t : G .Place) (a : ℕ) → Least (λ k. hope G S k p ≡ true) (suc n) → Listed G p a t → hope G S n t ≡ true
+          → Least (λ k. hope G S k t ≡ true) n
       hope-down n p t a l m e = (e, λ k q. le-of-suc-le-suc (l .1 (suc k) (into-hope k p t a m q)))
 
-      hope-down-inside : (n : ℕ) (p : G .Place) → Inside G p → Least (λ k. hope G S k p ≡ true) (suc n) → (t : G .Place) × Inside G t × Least (λ k. hope G S k t ≡ true) n
+      hope-down-inside : (n : ℕ) (p : G .Place) → Inside G p → Least (λ k. hope G S k p ≡ true) (suc n)
+          → (t : G .Place) × Inside G t × Least (λ k. hope G S k t ≡ true) n
       hope-down-inside n p m l = let i = hope-into n p l in (i .1, L .closed p (i .1) (i .0) m (i .2), hope-down n p (i .1) (i .0) l (i .2) (i .3))
 
       pub hope-below : (n : ℕ) (p : G .Place) → Inside G p → Least (λ k. hope G S k p ≡ true) n → n < size G
@@ -143,8 +151,10 @@ module _ (G : Arena) where
       pub hope-settled : (n : ℕ) (p : G .Place) → Inside G p → hope G S n p ≡ true → hope G S (size G) p ≡ true
       hope-settled n p m e = settled (hope G S) hope-up (G .all) hope-down-inside n p m e
 
-      pub hope-closed : (n : ℕ) → ((t : G .Place) → Inside G t → hope G S (suc n) t ≡ true → hope G S n t ≡ true) → (m : ℕ) (p : G .Place) → Inside G p → hope G S m p ≡ true → hope G S n p ≡ true
+      pub hope-closed : (n : ℕ) → ((t : G .Place) → Inside G t → hope G S (suc n) t ≡ true → hope G S n t ≡ true) → (m : ℕ) (p : G .Place)
+          → Inside G p → hope G S m p ≡ true → hope G S n p ≡ true
       hope-closed n h m p i e = closed (hope G S) hope-up (G .all) hope-down-inside n h m p i e
 
-      pub hope-new : (n : ℕ) (p : G .Place) → Least (λ k. hope G S k p ≡ true) (suc n) ↔ ((hope G S n p ≡ false) × ((a : ℕ) × (t : G .Place) × Listed G p a t × (hope G S n t ≡ true)))
+      pub hope-new : (n : ℕ) (p : G .Place)
+          → Least (λ k. hope G S k p ≡ true) (suc n) ↔ ((hope G S n p ≡ false) × ((a : ℕ) × (t : G .Place) × Listed G p a t × (hope G S n t ≡ true)))
       hope-new n p = (λ l. (not-yet (λ k. hope G S k p) n l, hope-into n p l), λ r. new (λ k. hope G S k p) (λ k. hope-up k p) n (r .0) (let i = r .1 in into-hope n p (i .1) (i .0) (i .2) (i .3)))

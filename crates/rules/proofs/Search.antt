@@ -62,7 +62,8 @@ lowest-found f (suc n) e = go (f zero) refl (lowest-found (λ i. f (suc i)) n)
     f′ : ℕ → Bool
     f′ i = f (suc i)
 
-    go : (b : Bool) → f zero ≡ b → (any f′ n ≡ true → (lowest f′ n < n) × Least (λ i. f′ i ≡ true) (lowest f′ n)) → (lowest f (suc n) < suc n) × Least (λ i. f i ≡ true) (lowest f (suc n))
+    go : (b : Bool) → f zero ≡ b → (any f′ n ≡ true → (lowest f′ n < n) × Least (λ i. f′ i ≡ true) (lowest f′ n))
+        → (lowest f (suc n) < suc n) × Least (λ i. f i ≡ true) (lowest f (suc n))
     go true z r = rw (z, lowest) (omega arith, (z, λ m q. zero-le))
     go false z r =
         let l = r (rw (z, any) at e) in
@@ -196,7 +197,8 @@ module _ {A : Type 0} where
     count-more [] t m p q = absurd (List·Memᴰ·not-nil m)
     count-more (x ∷ xs) t m p q = go (f x) refl (g x) refl (count-wider xs) (List·Memᴰ·cases-cons m) (λ k. count-more xs t k p q)
       where
-        go : (b : Bool) → f x ≡ b → (c : Bool) → g x ≡ c → count f xs ≤ count g xs → (t ≡ x) ⊎ List·Memᴰ t xs → (List·Memᴰ t xs → count f xs < count g xs) → count f (x ∷ xs) < count g (x ∷ xs)
+        go : (b : Bool) → f x ≡ b → (c : Bool) → g x ≡ c → count f xs ≤ count g xs → (t ≡ x) ⊎ List·Memᴰ t xs
+            → (List·Memᴰ t xs → count f xs < count g xs) → count f (x ∷ xs) < count g (x ∷ xs)
         go true y true z w (inl e) r = absurd (clash (ap f e ∙ y) p)
         go true y true z w (inr k) r = rw (y, z, count) (suc-le-suc (r k))
         go true y false z w h r = absurd (clash (wider x y) z)
@@ -217,11 +219,13 @@ climb g up xs (suc n) h =
 -- Tests on the members of xs, each wider than the one before; a member that first passes at n + 1 brings one that first passes at n.
 module _ {A : Type 0} (g : ℕ → A → Bool) (up : (k : ℕ) (t : A) → g k t ≡ true → g (suc k) t ≡ true) (xs : List A)
     (down : (n : ℕ) (p : A) → List·Memᴰ p xs → Least (λ k. g k p ≡ true) (suc n) → (t : A) × List·Memᴰ t xs × Least (λ k. g k t ≡ true) n) where
-  pub ladder : (n : ℕ) (p : A) → List·Memᴰ p xs → Least (λ k. g k p ≡ true) n → (k : ℕ) → k ≤ n → (t : A) × List·Memᴰ t xs × Least (λ i. g i t ≡ true) k
+  pub ladder : (n : ℕ) (p : A) → List·Memᴰ p xs → Least (λ k. g k p ≡ true) n → (k : ℕ) → k ≤ n
+      → (t : A) × List·Memᴰ t xs × Least (λ i. g i t ≡ true) k
   ladder zero p m l k h = let e : k ≡ zero = omega arith in rw e (p, m, l)
   ladder (suc n) p m l k h = go (eq-or-lt-of-le h) (λ d. let t = down n p m l in ladder n (t .0) (t .1) (t .2) k d)
     where
-      go : (k ≡ suc n) ⊎ (k < suc n) → (k ≤ n → (t : A) × List·Memᴰ t xs × Least (λ i. g i t ≡ true) k) → (t : A) × List·Memᴰ t xs × Least (λ i. g i t ≡ true) k
+      go : (k ≡ suc n) ⊎ (k < suc n) → (k ≤ n → (t : A) × List·Memᴰ t xs × Least (λ i. g i t ≡ true) k)
+          → (t : A) × List·Memᴰ t xs × Least (λ i. g i t ≡ true) k
       go (inl e) r = rw e (p, m, l)
       go (inr d) r = r (le-of-suc-le-suc d)
 
@@ -239,7 +243,8 @@ module _ {A : Type 0} (g : ℕ → A → Bool) (up : (k : ℕ) (t : A) → g k t
       stays (λ k. g k p) (λ k. up k p) (l .0) (length xs) (let h : l .0 < length xs = first-below (l .0) p m (l .2) in omega arith) (l .2 .0)
 
   -- and where a step adds no member, no later one does
-  pub closed : (n : ℕ) → ((t : A) → List·Memᴰ t xs → g (suc n) t ≡ true → g n t ≡ true) → (m : ℕ) (p : A) → List·Memᴰ p xs → g m p ≡ true → g n p ≡ true
+  pub closed : (n : ℕ) → ((t : A) → List·Memᴰ t xs → g (suc n) t ≡ true → g n t ≡ true) → (m : ℕ) (p : A) → List·Memᴰ p xs → g m p ≡ true
+      → g n p ≡ true
   closed n h m p i e = if-not-false (g n p) (λ z.
       let l = has-lowest (λ k. g k p) m e in
       let late : n < l .0 = lt-of-not-le (λ b. clash (stays (λ k. g k p) (λ k. up k p) (l .0) n b (l .2 .0)) z) in

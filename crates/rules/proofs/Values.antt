@@ -21,7 +21,8 @@ module _ (G : Arena) (test : G .Place → ℕ → Bool) (fits : (p : G .Place) (
   pub seek : Way G
   seek = record { choose = λ h. pick (any (test (last h)) (G .actions)) (lowest (test (last h)) (G .actions)); legal = λ h a e. go h a (any (test (last h)) (G .actions)) refl e }
     where
-      go : (h : Play (G .Place)) (a : ℕ) (b : Bool) → any (test (last h)) (G .actions) ≡ b → pick b (lowest (test (last h)) (G .actions)) ≡ act a → Open G (last h) a
+      go : (h : Play (G .Place)) (a : ℕ) (b : Bool) → any (test (last h)) (G .actions) ≡ b → pick b (lowest (test (last h)) (G .actions)) ≡ act a
+          → Open G (last h) a
       go h a true z e =
           let l = lowest-found (test (last h)) (G .actions) z in
           let q : lowest (test (last h)) (G .actions) ≡ a = cc in
@@ -37,7 +38,8 @@ module _ (G : Arena) (test : G .Place → ℕ → Bool) (fits : (p : G .Place) (
 
 module _ (G : Arena) (L : Lawful G) where
   -- where p is not in round n, some outcomes keep the goal unmet for n moves
-  pub delays : (σ : Way G) (n : ℕ) (h : Play (G .Place)) → win G n (last h) ≡ false → (o : ℕ → G .Place) × Obeys G σ o h × Unmet G (last (run G σ o h n))
+  pub delays : (σ : Way G) (n : ℕ) (h : Play (G .Place)) → win G n (last h) ≡ false
+      → (o : ℕ → G .Place) × Obeys G σ o h × Unmet G (last (run G σ o h n))
   unfolding win
   delays σ zero h e = let o = some-obeys G σ h in (o .0, o .1, e)
   delays σ (suc n) h e = go (next G σ h) (λ k. delays σ n k)
@@ -45,7 +47,8 @@ module _ (G : Arena) (L : Lawful G) where
       Then : Play (G .Place) → Type 0
       Then k = win G n (last k) ≡ false → (o : ℕ → G .Place) × Obeys G σ o k × Unmet G (last (run G σ o k n))
 
-      by : (t : G .Place) → Fair G σ h t → win G n (last (advance G σ h t)) ≡ false → ((k : Play (G .Place)) → Then k) → (o : ℕ → G .Place) × Obeys G σ o h × Unmet G (last (run G σ o h (suc n)))
+      by : (t : G .Place) → Fair G σ h t → win G n (last (advance G σ h t)) ≡ false → ((k : Play (G .Place)) → Then k)
+          → (o : ℕ → G .Place) × Obeys G σ o h × Unmet G (last (run G σ o h (suc n)))
       by t f z r = let o = r (advance G σ h t) z in (first G σ t (o .0), obeys-first G σ h t (o .0) f (o .1), o .2)
 
       go : Next G σ h → ((k : Play (G .Place)) → Then k) → (o : ℕ → G .Place) × Obeys G σ o h × Unmet G (last (run G σ o h (suc n)))
@@ -59,12 +62,15 @@ module _ (G : Arena) (L : Lawful G) where
   -- A way that names, where n + 1 moves are needed, an action after which n suffice, meets the goal in time. (D: the places that it has to do with)
   module _ (σ : Way G) (D : G .Place → Type 0)
       (guide : (h : Play (G .Place)) (n : ℕ) → D (last h) → Least (λ k. win G k (last h) ≡ true) (suc n) → (a : ℕ) × (σ .choose h ≡ act a) × ((t : G .Place) → Listed G (last h) a t → D t × (win G n t ≡ true))) where
-    pub guided-meets : (n : ℕ) (h : Play (G .Place)) → D (last h) → win G n (last h) ≡ true → (o : ℕ → G .Place) → Obeys G σ o h → Accepted G (last (run G σ o h n))
+    pub guided-meets : (n : ℕ) (h : Play (G .Place)) → D (last h) → win G n (last h) ≡ true → (o : ℕ → G .Place) → Obeys G σ o h
+        → Accepted G (last (run G σ o h n))
     unfolding win
     guided-meets zero h d e o b = e
     guided-meets (suc n) h d e o b = go (either (G .accepted (last h))) (λ k x y. guided-meets n k x y (λ i. o (suc i)))
       where
-        go : Accepted G (last h) ⊎ Unmet G (last h) → ((k : Play (G .Place)) → D (last k) → win G n (last k) ≡ true → Obeys G σ (λ i. o (suc i)) k → Accepted G (last (run G σ (λ i. o (suc i)) k n))) → Accepted G (last (run G σ o h (suc n)))
+        go : Accepted G (last h) ⊎ Unmet G (last h)
+            → ((k : Play (G .Place)) → D (last k) → win G n (last k) ≡ true → Obeys G σ (λ i. o (suc i)) k → Accepted G (last (run G σ (λ i. o (suc i)) k n)))
+            → Accepted G (last (run G σ o h (suc n)))
         go (inl y) r = rw (run-over G σ o h (suc n) (met-stays G σ h y)) y
         go (inr u) r = at (has-lowest (λ k. win G k (last h)) (suc n) e)
           where
@@ -88,7 +94,8 @@ module _ (G : Arena) (L : Lawful G) where
   unfolding nearer
   win-forces n p e = (seek G (nearer n) (nearer-open n), λ o b. guided-meets (seek G (nearer n) (nearer-open n)) (λ q. win G n q ≡ true) guide n (begin p) e e o b)
     where
-      guide : (h : Play (G .Place)) (m : ℕ) → win G n (last h) ≡ true → Least (λ k. win G k (last h) ≡ true) (suc m) → (a : ℕ) × (seek G (nearer n) (nearer-open n) .choose h ≡ act a) × ((t : G .Place) → Listed G (last h) a t → (win G n t ≡ true) × (win G m t ≡ true))
+      guide : (h : Play (G .Place)) (m : ℕ) → win G n (last h) ≡ true → Least (λ k. win G k (last h) ≡ true) (suc m)
+          → (a : ℕ) × (seek G (nearer n) (nearer-open n) .choose h ≡ act a) × ((t : G .Place) → Listed G (last h) a t → (win G n t ≡ true) × (win G m t ≡ true))
       guide h m d l =
           let i = win-into G L m (last h) l in
           let r : pred (lowest (λ k. win G k (last h)) (suc n)) ≡ m = ap pred (lowest-is (λ k. win G k (last h)) n (suc m) d l) in
@@ -105,7 +112,8 @@ module _ (G : Arena) (L : Lawful G) where
   wins-iff n p = (least-map (λ k. forces-iff k p), least-map (λ k. (forces-iff k p .1, forces-iff k p .0)))
 
   -- From a place inside that no round has, some outcomes keep the goal unmet for ever.
-  pub spoils : (σ : Way G) (p : G .Place) → Inside G p → won G p ≡ false → (o : ℕ → G .Place) × Obeys G σ o (begin p) × ((n : ℕ) → Unmet G (last (run G σ o (begin p) n)))
+  pub spoils : (σ : Way G) (p : G .Place) → Inside G p → won G p ≡ false
+      → (o : ℕ → G .Place) × Obeys G σ o (begin p) × ((n : ℕ) → Unmet G (last (run G σ o (begin p) n)))
   spoils σ p m e = (kept G σ I keep (begin p) (m, e), kept-obeys G σ I keep (begin p) (m, e), λ n. unmet _ (kept-keeps G σ I keep (begin p) (m, e) n .1))
     where
       I : Play (G .Place) → Type 0

@@ -93,6 +93,7 @@ module _ (G : Arena) where
   abbrev pub Forces : Way → G .Place → ℕ → Type 0
   Forces σ p n = (o : ℕ → G .Place) → Obeys σ o (begin p) → Accepted (last (run σ o (begin p) n))
 
+  -- some way of choosing reaches an accepted place against every sequence of listed outcomes
   abbrev pub Winning : G .Place → Type 0
   Winning p = (σ : Way) × ((o : ℕ → G .Place) → Obeys σ o (begin p) → (n : ℕ) × Accepted (last (run σ o (begin p) n)))
 
@@ -100,16 +101,19 @@ module _ (G : Arena) where
   abbrev pub Reaches : (G .Place → Type 0) → G .Place → ℕ → Type 0
   Reaches Q p n = (σ : Way) × (o : ℕ → G .Place) × Obeys σ o (begin p) × Q (last (run σ o (begin p) n))
 
+  -- some choice with some outcomes reaches an accepted place
   abbrev pub Possible : G .Place → Type 0
   Possible p = (n : ℕ) × Reaches Accepted p n
 
+  -- not winning, and some choice with some outcomes reaches one; neither
   abbrev pub Pending : G .Place → Type 0
   Pending p = (Winning p → ⊥) × Possible p
 
   abbrev pub Losing : G .Place → Type 0
   Losing p = (Winning p → ⊥) × (Possible p → ⊥)
 
-  -- the number of a winning place, and of a pending one
+  -- the number of a winning place: the least N within which some way of choosing reaches acceptance against every outcome;
+  -- and of a pending one: the least count of moves by which some choices and outcomes reach a winning place
   abbrev pub WinsIn : G .Place → ℕ → Type 0
   WinsIn p = Least (λ n. (σ : Way) × Forces σ p n)
 

@@ -45,7 +45,11 @@ impl Job<'_> {
 }
 
 fn check(good: bool, refusal: u32) -> Result<(), u32> {
-    if good { Ok(()) } else { Err(refusal) }
+    if good {
+        Ok(())
+    } else {
+        Err(refusal)
+    }
 }
 
 fn bodies(job: &[u8]) -> Result<[&[u8]; 4], u32> {

@@ -32,6 +32,6 @@ pub fn print(lines: &[Line], date: &str, repeats: usize) {
         let [library, plain, oracle] = line.times;
         print!("| {} | {} | {} | {} | {} ", line.name, line.bytes, line.places, line.moves, line.largest);
         print!("| {} | {} | {} ", unit(library), unit(plain), unit(oracle));
-        println!("| {:.2} | {:.2} |", library / plain, oracle / plain);
+        println!("| {:.3} | {:.3} |", library / plain, oracle / plain);
     }
 }

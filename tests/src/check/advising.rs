@@ -105,5 +105,9 @@ fn odd_entry(random: &mut Random, job: &Job) -> [u8; 4] {
         _ => (action, number),
     };
     let bytes = (number as u16).to_le_bytes();
-    if random.once_in(20) { [0; 4] } else { [value, action as u8, bytes[0], bytes[1]] }
+    if random.once_in(20) {
+        [0; 4]
+    } else {
+        [value, action as u8, bytes[0], bytes[1]]
+    }
 }

@@ -5,7 +5,11 @@ use crate::random::Random;
 /// A figure that is often below the limit.
 pub fn figure(random: &mut Random, limit: usize) -> u32 {
     let below = random.below(limit) as u32;
-    if random.once_in(2) { below } else { odd(random, limit) }
+    if random.once_in(2) {
+        below
+    } else {
+        odd(random, limit)
+    }
 }
 
 /// A figure at the edge of the range or beyond it, or one that looks right when it is cut to one or two bytes.

@@ -1,6 +1,7 @@
 //! Planning: its answer, and every byte of the plan's memory before and after.
 
 use super::Trial;
+use crate::fence::Side;
 use crate::library;
 use crate::oracle::Job;
 use crate::report::{self, Call};
@@ -32,8 +33,8 @@ impl Trial<'_> {
         let largest = self.oracle.entries.iter().map(|entry| entry.number).max().unwrap_or(0);
         let enough = match self.side {
             _ if cost(job, largest) < CHEAP => vec![longer, need],
-            crate::fence::Side::End => vec![need],
-            crate::fence::Side::Begin => vec![longer],
+            Side::End => vec![need],
+            Side::Begin => vec![longer],
         };
         [short, enough].concat()
     }

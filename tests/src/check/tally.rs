@@ -1,6 +1,6 @@
 //! Counts what a run has tried, so that its end can say how much was covered.
 
-use crate::oracle::Oracle;
+use crate::oracle::{Oracle, WINNING};
 use std::collections::{BTreeMap, BTreeSet};
 
 #[derive(Default)]
@@ -11,8 +11,8 @@ pub struct Tally {
     jobs: [u64; 7],
     /// Answers of all calls by refusal.
     answers: [u64; 12],
-    /// Entries by value.
-    values: [u64; 3],
+    /// Entries: losing, pending, winning but not accepted, accepted.
+    entries: [u64; 4],
     largest: usize,
     labels_possible: BTreeSet<usize>,
     goals: BTreeSet<usize>,
@@ -29,7 +29,8 @@ impl Tally {
             self.goals.insert(job.goals);
         }
         for entry in &oracle.entries {
-            self.values[usize::from(entry.value)] += 1;
+            let accepted = usize::from(entry.value == WINNING && entry.number == 0);
+            self.entries[usize::from(entry.value) + accepted] += 1;
             self.largest = self.largest.max(entry.number);
         }
     }
@@ -38,6 +39,17 @@ impl Tally {
         if let Some(count) = self.answers.get_mut(refusal as usize) {
             *count += 1;
         }
+    }
+
+    /// Whether every answer, every value and every count of propositions and goal states has come up.
+    pub fn covered(&self) -> bool {
+        let answers = self.answers.iter().enumerate().filter(|(_, &count)| count > 0);
+        let answers: Vec<usize> = answers.map(|(refusal, _)| refusal).collect();
+        answers == [0, 1, 2, 3, 4, 5, 6, 7, 9, 10, 11]
+            && self.entries.iter().all(|&count| count > 0)
+            && self.labels_possible.len() == 7
+            && self.goals.len() == 32
+            && self.brute > 0
     }
 
     pub fn print(&self) {
@@ -52,8 +64,9 @@ impl Tally {
         println!("jobs by refusal (0 is good): {}", list(&self.jobs));
         println!("calls by answer (0 is good): {}", list(&self.answers));
         println!("calls in all: {}", self.answers.iter().sum::<u64>());
-        let [losing, pending, winning] = self.values;
-        println!("entries: {losing} losing, {pending} pending, {winning} winning; largest number {}", self.largest);
+        let [losing, pending, winning, accepted] = self.entries;
+        println!("entries: {losing} losing, {pending} pending, {winning} winning, {accepted} accepted");
+        println!("largest number: {}", self.largest);
         let (propositions, goals) = (self.labels_possible.len(), self.goals.len());
         println!("good jobs had {propositions} of 7 counts of propositions, {goals} of 32 counts of goal states");
         println!("oracle compared with the meaning itself: {} jobs", self.brute);

@@ -7,6 +7,7 @@ mod parts;
 mod valid;
 mod wild;
 
+use crate::oracle::Oracle;
 use crate::random::Random;
 use crate::report::Input;
 pub use chain::Doubt;
@@ -18,14 +19,15 @@ const SMALL: Size = Size { states: 8, actions: 5, propositions: 3, goals: 6, mov
 const MIDDLING: Size = Size { states: 40, actions: 16, propositions: 6, goals: 12, moves: 500 };
 const FULL: Size = Size { states: 128, actions: 16, propositions: 6, goals: 32, moves: 4_096 };
 
-/// The longest job there is, 14,518 bytes.
+/// The longest job there is, 14,518 bytes, with places of every value and some way to go.
 pub fn longest(seed: u64) -> Vec<u8> {
-    // Some manners of making moves give fewer of them: the first seed that gives all is taken.
-    (0..)
-        .map(|number| valid::job(&mut Random::new(seed, number), FULL))
-        .find(|parts| parts.moves.len() == 12_288 && parts.goal[parts.goal.len() - 32..].contains(&1))
-        .expect("some seed gives every move")
-        .bytes()
+    let varied = |job: &Vec<u8>| {
+        let entries = Oracle::new(job).entries;
+        let far = entries.iter().any(|entry| entry.number > 4);
+        far && (0..3).all(|value| entries.iter().any(|entry| entry.value == value))
+    };
+    let mut jobs = (0..).map(|number| valid::job(&mut Random::new(seed, number), FULL).bytes());
+    jobs.find(|job| job.len() == 14_518 && varied(job)).expect("some number gives such a job")
 }
 
 /// As long, with numbers as large as they can be.
@@ -100,9 +102,10 @@ fn other_lengths() -> Vec<Vec<u8>> {
 
 /// A good job to start from when something is to be spoilt.
 fn sound(random: &mut Random) -> Parts {
-    let limit = match random.below(100) {
-        0 => MIDDLING,
-        1..=30 => TINY,
+    let limit = match random.below(500) {
+        0 => FULL,
+        1..=5 => MIDDLING,
+        6..=150 => TINY,
         _ => SMALL,
     };
     let size = limit.upto(random);

@@ -47,9 +47,8 @@ pub fn in_order(random: &mut Random, mut records: Vec<[u8; 3]>, most: usize) -> 
 }
 
 fn all_records(size: Size) -> Vec<[u8; 3]> {
-    let outcomes = |state: usize, action: usize| {
-        (0..size.states).map(move |outcome| [state as u8, action as u8, outcome as u8])
-    };
+    let outcomes =
+        |state: usize, action: usize| (0..size.states).map(move |outcome| [state as u8, action as u8, outcome as u8]);
     let actions = |state: usize| (0..size.actions).flat_map(move |action| outcomes(state, action));
     (0..size.states).flat_map(actions).collect()
 }
@@ -75,7 +74,8 @@ fn moves(random: &mut Random, size: Size) -> Vec<u8> {
             single.dedup_by_key(|one| [one[0], one[1]]);
             single
         }
-        manner => (0..size.moves).map(|_| record(random, size, manner % 5)).collect(),
+        // A few more than wanted, since doubles are dropped.
+        manner => (0..size.moves + size.moves / 16).map(|_| record(random, size, manner % 5)).collect(),
     };
     in_order(random, records, size.moves)
 }

@@ -12,7 +12,11 @@ fn index(figure: u32, limit: usize) -> Option<usize> {
 impl Job {
     fn spot(&self, state: u32, goal: u32) -> Result<(usize, usize), u32> {
         let spot = (index(state, self.states), index(goal, self.goals));
-        if let (Some(state), Some(goal)) = spot { Ok((state, goal)) } else { Err(PLACE) }
+        if let (Some(state), Some(goal)) = spot {
+            Ok((state, goal))
+        } else {
+            Err(PLACE)
+        }
     }
 
     fn follow(&self, place: [u32; 2], action: u32, outcome: u32) -> Result<[u32; 2], u32> {

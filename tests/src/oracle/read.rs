@@ -93,7 +93,7 @@ fn read_labels(body: &[u8], states: usize, possible: usize) -> Result<Vec<usize>
 }
 
 fn read_moves(body: &[u8], states: usize, actions: usize) -> Result<Vec<Move>, u32> {
-    if body.len() % 3 != 0 || body.len() > 12_288 {
+    if !body.len().is_multiple_of(3) || body.len() > 12_288 {
         return Err(MOVES);
     }
     let record = |at: &[u8]| Move { state: at[0].into(), action: at[1].into(), outcome: at[2].into() };
