@@ -15,12 +15,12 @@ use Rattle.rules.specs.Calls.{Planning, refused, no-room, overrun, planned, is-
 use Rattle.rules.specs.declared.place.Place.{Place}
 use Rattle.rules.specs.declared.entry.Entry.{Entry}
 use Rattle.rules.proofs.Search.{clash}
+use Rattle.rules.proofs.Tests.{and-iff, ltb-iff}
+use Rattle.rules.proofs.Kept.{kept}
 use Rattle.rules.proofs.Rounds.{win}
 use Rattle.rules.proofs.Values.{wins-iff}
 use Rattle.rules.proofs.Bounds.{wins-below, hopes-below}
 use Rattle.rules.proofs.Entries.{shaped-winning, shaped-pending}
-use Rattle.rules.proofs.Tests.{and-iff, ltb-iff}
-use Rattle.rules.proofs.Kept.{kept}
 use Rattle.rules.proofs.Arenas.{inside-iff, size-of, arena-lawful}
 use Rattle.labelling.proofs.Demands.{entry-of, planned-exactly, planned-right}
 
@@ -43,14 +43,18 @@ right-shaped {b} k p i (wins {a} {n = suc n} u w s) =
     let below = wins-below (arena (said b)) L (suc n) p i w in
     shaped-winning (said b .actions) (places (said b)) (says 2 a (suc n)) refl
     ∙ or-last (blank (says 2 a (suc n))) (due (said b .actions) (places (said b)) (says 2 a (suc n)))
-    (due-true (said b .actions) (places (said b)) a (suc n) 2 (L .counted p (o .0) a (o .1)) (omega arith) (omega (arith, size-of (said b))))
+    (due-true (said b .actions) (places (said b)) a (suc n) 2 (L .counted p (o .0) a (o .1)) (omega arith) (omega (
+      arith,
+      size-of (said b),
+    )))
 right-shaped {b} k p i (hopes {a} {n = zero} h m s) = absurd (h .0 (m .0 .3))
 right-shaped {b} k p i (hopes {a} {n = suc n} h m s) =
     let L = arena-lawful b k in
     let t = s .0 in
     let below = hopes-below (arena (said b)) L (suc n) p i m in
     shaped-pending (said b .actions) (places (said b)) (says 1 a (suc n)) refl
-    ∙ due-true (said b .actions) (places (said b)) a (suc n) 1 (L .counted p (t .0) a (t .1)) (omega arith) (omega (arith, size-of (said b)))
+    ∙ due-true (said b .actions) (places (said b)) a (suc n) 1 (L .counted p (t .0) a (t .1)) (omega arith)
+    (omega (arith, size-of (said b)))
 
 planned-long : {b before after : List ℕ} {r : ℕ} → Planning b before r after → r ≡ 0 → room (said b) ≤ length after
 planned-long (refused n) z = absurd (n z)

@@ -1,4 +1,5 @@
--- What each call answers, by the tests that were made: of bytes that are refused, and of bytes that keep the rules, in the figures of their layout.
+-- What each call answers, by the tests that were made: of bytes that are refused, and of bytes that keep the rules, in the figures of their
+-- layout.
 use Prim.Native.Nat.{ℕ, _+_, _*_, _≤_, _<_}
 use mathlib.Core.Bool.{true, false}
 use mathlib.Core.List.{List}

@@ -12,7 +12,8 @@ use Rattle.rules.specs.Job.{place, places, entry-number, entered, start, record
 use Rattle.rules.specs.Bytes.{refusal, said}
 use Rattle.rules.specs.Keeps.{Keeps}
 use Rattle.rules.specs.Plan.{entry, room, shaped}
-use Rattle.rules.specs.Calls.{Planning, refused, no-room, overrun, planned, refused-move, moved-to, started, is-place, followed, refused-advice, advice-of, advised}
+use Rattle.rules.specs.Calls.{Planning, refused, no-room, overrun, planned, refused-move, moved-to, started, is-place, followed}
+use Rattle.rules.specs.Calls.{refused-advice, advice-of, advised}
 use Rattle.rules.specs.Answers as answers
 use Rattle.rules.specs.Demands.{ValueTold, WinningKept, PendingKept}
 use Rattle.rules.specs.declared.place.Place.{Place}
@@ -32,7 +33,8 @@ pub planning-refuses : {b before after : List ℕ} {r : ℕ} → Planning b befo
 planning-refuses {b} (refused n) = (rw (ne-eqb (refusal b) 0 n), λ z. refl)
 planning-refuses {b} {before} (no-room e l) = (rw (eq-eqb (refusal b) 0 e, lt-ltb (length before) (room (said b)) l), λ z. refl)
 planning-refuses {b} (overrun e l o) = absurd (no-overrun b (kept b .0 e) o)
-planning-refuses {b} {before} (planned e l n p) = (rw (eq-eqb (refusal b) 0 e, le-ltb (length before) (room (said b)) l), λ z. absurd (z refl))
+planning-refuses {b} {before} (planned e l n p) =
+    (rw (eq-eqb (refusal b) 0 e, le-ltb (length before) (room (said b)) l), λ z. absurd (z refl))
 
 -- The others answer 0 in every other figure of a refusal.
 abbrev pub MovedClear : answers.MovedFigures → Type 0
@@ -78,7 +80,8 @@ pub demand-2 : {b before after : List ℕ} {r : ℕ} → Planning b before r aft
     × (r ≡ 0 → (p : Place) → Inside (arena (said b)) p → Right (arena (said b)) p (entry-of b after p))
 demand-2 p = (planned-exactly p, planned-right p)
 
--- ---- 3. Whoever follows the plan. (Following by the calls makes the moves of the game: `followed-listed` and `listed-followed` of Starting.antt.)
+-- ---- 3. Whoever follows the plan. (Following by the calls makes the moves of the game: `followed-listed` and `listed-followed` of
+-- Starting.antt.)
 
 module _ {b before after : List ℕ} (done : Planning b before 0 after) where
   -- the plan says of each place what the place is, and can be followed
@@ -88,7 +91,8 @@ module _ {b before after : List ℕ} (done : Planning b before 0 after) where
   pub demand-3-ways : (σ : Way (arena (said b))) × Follows (arena (said b)) (entry-of b after) σ
   demand-3-ways = followable done
 
-  module _ (σ : Way (arena (said b))) (follows : Follows (arena (said b)) (entry-of b after) σ) (p : Place) (i : Inside (arena (said b)) p) where
+  module _ (σ : Way (arena (said b))) (follows : Follows (arena (said b)) (entry-of b after) σ) (p : Place)
+      (i : Inside (arena (said b)) p) where
     pub demand-3-winning : entry-of b after p .value ≡ 2 → WinningKept (arena (said b)) (entry-of b after) σ p
     demand-3-winning = followed-wins done σ follows p i
 

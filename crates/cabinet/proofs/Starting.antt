@@ -1,4 +1,5 @@
--- Where a caller comes to stand: a start that is not refused is one of the job's places, and every move that is followed is one of the game's.
+-- Where a caller comes to stand: a start that is not refused is one of the job's places, and every move that is followed is one of the
+-- game's.
 use Prim.Native.Nat.{ℕ}
 use mathlib.Core.Bool.{Bool, true, false, cond, not}
 use mathlib.Core.List.{List}
@@ -13,8 +14,8 @@ use Rattle.rules.specs.Bytes.{refusal, said}
 use Rattle.rules.specs.Keeps.{Keeps}
 use Rattle.rules.specs.Answers.{MovedFigures}
 use Rattle.rules.specs.Calls.{refused-move, moved-to, started, is-place, followed}
-use Rattle.rules.proofs.Kept.{kept}
 use Rattle.rules.proofs.Tests.{and-iff, ltb-iff}
+use Rattle.rules.proofs.Kept.{kept}
 use Rattle.rules.proofs.Arenas.{is-record-iff, recorded-iff, leads-iff, entered-inside, start-inside}
 
 -- P holds of an answer that is not refused
@@ -74,5 +75,6 @@ module _ (b : List ℕ) (s q a t : ℕ) where
       leads-iff (said b) (place s q) (entered (said b) q t) a .1 (i, l, from, ap (entered (said b) q) (sym to)))
 
   -- and every move of the game from a place is one that can be followed
-  pub listed-followed : Keeps b → is-place (said b) s q ≡ true → recorded (said b) s a t ≡ true → followed b s q a t ≡ moved-to (entered (said b) q t)
+  pub listed-followed : Keeps b → is-place (said b) s q ≡ true → recorded (said b) s a t ≡ true
+      → followed b s q a t ≡ moved-to (entered (said b) q t)
   listed-followed k p r = rw (eq-eqb (refusal b) 0 (kept b .1 k), p, r)

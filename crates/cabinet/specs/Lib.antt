@@ -1,1 +1,2 @@
+-- What the promises of the calls for C are said with, beside the meaning.
 pub mod Figures

@@ -13,8 +13,8 @@ use lib.Pow.{pow-mono}
 use Rattle.rules.specs.Job.{every-below}
 use Rattle.rules.specs.Bytes.{offset, size, record-at, rows, mark, said, contents, good}
 use Rattle.rules.specs.declared.place.Move.{Move}
-use Rattle.rules.proofs.Kept.{InRange, contents-iff, range-iff}
-use Rattle.rules.proofs.Tests.{every-same}
+use Rattle.rules.proofs.Tests.{every-below-ext}
+use Rattle.rules.proofs.Judged.{InRange, contents-iff, range-iff}
 use Rattle.job.specs.Layout.{layout, Laid, in-ranges, good-after}
 use Rattle.job.specs.declared.layout.Layout.{Layout}
 
@@ -109,7 +109,7 @@ previous-is b l e k = rw (add-one k, e)
 pub marks-are : (b : List ℕ) (l : Layout) → l ≡ layout b
     → every-below (l .goals) (below b (l .«goal_at» + l .goals * 2 ^ l .propositions) 2)
     ≡ every-below (said b .goals) (λ q. leb (mark b q) 1)
-marks-are b l e = rw e (every-same (below b (offset b 3 + rows b) 2) (λ q. leb (mark b q) 1) same (said b .goals))
+marks-are b l e = rw e (every-below-ext (below b (offset b 3 + rows b) 2) (λ q. leb (mark b q) 1) same (said b .goals))
   where
     same : (q : ℕ) → below b (offset b 3 + rows b) 2 q ≡ leb (mark b q) 1
     same q = leb·suc-suc (getD b (offset b 3 + rows b + q) 0) 1 ∙ ap (λ (i : ℕ). leb (getD b i 0) 1) (add-assoc (offset b 3) (rows b) q)

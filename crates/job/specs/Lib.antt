@@ -1,3 +1,4 @@
+-- What the promises of reading and asking a job are said with.
 pub mod Layout
 pub mod Reading
 pub mod Found

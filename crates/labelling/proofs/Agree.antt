@@ -1,52 +1,17 @@
 -- Tests that agree on the places that can be met give the same rounds; and what rounds keep of the places reached and the entries written.
-use Prim.Native.Nat.{ℕ, zero, suc, _≤_, _<_, zero-le}
-use mathlib.Core.Bool.{Bool, true, false, _||_, true≢false}
-use mathlib.Core.List.{List, [], _∷_, List·Memᴰ, List·Memᴰ·head, List·Memᴰ·tail}
+use Prim.Native.Nat.{ℕ, zero, suc, _≤_, zero-le}
+use mathlib.Core.Bool.{Bool, true, false, true≢false, _||_}
 use mathlib.Core.Path.{_≡_, refl, ap₂, _∙_}
 use native.Mathlib.Decide.{le-ind}
-use native.Mathlib.Omega.{arith}
 use Rattle.rules.specs.Game.{Arena, Inside, Lawful, says}
 use Rattle.rules.specs.declared.entry.Entry.{Entry}
-use Rattle.rules.proofs.Search.{any, lowest, every, some, sure, stays}
+use Rattle.rules.specs.Job.{some-below}
+use Rattle.rules.proofs.Search.{lowest, lowest-ext, stays}
+use Rattle.rules.proofs.Lists.{some-ext, sure-ext}
+use Rattle.rules.proofs.Tests.{some-below-ext}
 use Rattle.labelling.specs.declared.scan.Phase.{Phase}
 use Rattle.labelling.specs.Scan.{wanted, phase-value}
 use Rattle.labelling.specs.Rounds.{reached, written}
-
--- ---- tests that agree on the members of a list
-
-module _ {A : Type 0} (f g : A → Bool) where
-  pub every-ext : (xs : List A) → ((t : A) → List·Memᴰ t xs → f t ≡ g t) → every f xs ≡ every g xs
-  unfolding every
-  every-ext [] h = refl
-  every-ext (x ∷ xs) h =
-      ap₂ (λ (b c : Bool). elim b [ true ↦ c | false ↦ false ]) (h x (List·Memᴰ·head refl)) (every-ext xs (λ t m. h t (List·Memᴰ·tail m)))
-
-  pub some-ext : (xs : List A) → ((t : A) → List·Memᴰ t xs → f t ≡ g t) → some f xs ≡ some g xs
-  unfolding some
-  some-ext [] h = refl
-  some-ext (x ∷ xs) h =
-      ap₂ (λ (b c : Bool). elim b [ true ↦ true | false ↦ c ]) (h x (List·Memᴰ·head refl)) (some-ext xs (λ t m. h t (List·Memᴰ·tail m)))
-
-  pub sure-ext : (xs : List A) → ((t : A) → List·Memᴰ t xs → f t ≡ g t) → sure f xs ≡ sure g xs
-  unfolding sure
-  sure-ext [] h = refl
-  sure-ext (x ∷ xs) h = every-ext (x ∷ xs) h
-
--- ---- tests that agree on the numbers below n
-
-pub any-ext : (f g : ℕ → Bool) (n : ℕ) → ((a : ℕ) → a < n → f a ≡ g a) → any f n ≡ any g n
-unfolding any
-any-ext f g zero h = refl
-any-ext f g (suc n) h =
-    ap₂ (λ (b c : Bool). elim b [ true ↦ true | false ↦ c ]) (h zero (omega arith))
-    (any-ext (λ i. f (suc i)) (λ i. g (suc i)) n (λ a l. h (suc a) (omega arith)))
-
-pub lowest-ext : (f g : ℕ → Bool) (n : ℕ) → ((a : ℕ) → a < n → f a ≡ g a) → lowest f n ≡ lowest g n
-unfolding lowest
-lowest-ext f g zero h = refl
-lowest-ext f g (suc n) h =
-    ap₂ (λ (b : Bool) (c : ℕ). elim b [ true ↦ zero | false ↦ suc c ]) (h zero (omega arith))
-    (lowest-ext (λ i. f (suc i)) (λ i. g (suc i)) n (λ a l. h (suc a) (omega arith)))
 
 -- ---- rounds from tests that agree inside
 
@@ -58,8 +23,8 @@ module _ {G : Arena} (L : Lawful G) where
 
   module _ (v : Phase) (f g : G .Place → Bool) (h : (t : G .Place) → Inside G t → f t ≡ g t) where
     -- so a round finds the same: whether a place has such an action, and which is the lowest
-    pub any-wanted-ext : (p : G .Place) → Inside G p → any (wanted v G f p) (G .actions) ≡ any (wanted v G g p) (G .actions)
-    any-wanted-ext p m = any-ext (wanted v G f p) (wanted v G g p) (G .actions) (λ a l. wanted-ext v f g h p m a)
+    pub some-wanted-ext : (p : G .Place) → Inside G p → some-below (G .actions) (wanted v G f p) ≡ some-below (G .actions) (wanted v G g p)
+    some-wanted-ext p m = some-below-ext (wanted v G f p) (wanted v G g p) (G .actions) (λ a l. wanted-ext v f g h p m a)
 
     pub lowest-wanted-ext : (p : G .Place) → Inside G p → lowest (wanted v G f p) (G .actions) ≡ lowest (wanted v G g p) (G .actions)
     lowest-wanted-ext p m = lowest-ext (wanted v G f p) (wanted v G g p) (G .actions) (λ a l. wanted-ext v f g h p m a)
@@ -69,7 +34,7 @@ module _ {G : Arena} (L : Lawful G) where
     unfolding reached
     reached-ext zero p m = h p m
     reached-ext (suc n) p m =
-        ap₂ (λ (b c : Bool). b || c) (reached-ext n p m) (any-wanted-ext v (reached v G f n) (reached v G g n) (reached-ext n) p m)
+        ap₂ (λ (b c : Bool). b || c) (reached-ext n p m) (some-wanted-ext v (reached v G f n) (reached v G g n) (reached-ext n) p m)
 
     pub written-ext : (e : G .Place → Entry) (n : ℕ) (p : G .Place) → Inside G p → written v G f e n p ≡ written v G g e n p
     unfolding written
@@ -78,7 +43,7 @@ module _ {G : Arena} (L : Lawful G) where
         let r = reached v G f n in
         let s = reached v G g n in
         let same = reached-ext n in
-        rw (same p m, any-wanted-ext v r s same p m, lowest-wanted-ext v r s same p m, written-ext e n p m)
+        rw (same p m, some-wanted-ext v r s same p m, lowest-wanted-ext v r s same p m, written-ext e n p m)
 
 -- ---- what later rounds keep
 
@@ -104,7 +69,7 @@ module _ (v : Phase) (G : Arena) (f : G .Place → Bool) where
     unfolding written reached
     written-none zero r = refl
     written-none (suc n) r =
-        let t = neither (reached v G f n p) (any (wanted v G (reached v G f n) p) (G .actions)) r in
+        let t = neither (reached v G f n p) (some-below (G .actions) (wanted v G (reached v G f n) p)) r in
         rw (t .0, t .1) (written-none n (t .0))
 
     pub written-old : (n : ℕ) → f p ≡ true → written v G f e n p ≡ e p

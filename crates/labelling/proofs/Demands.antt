@@ -51,7 +51,8 @@ planned-right {b} {before} (planned {p = bytes} e l n plan) z p i =
     let (hs, hq) = inside-iff (said b) p .0 i in
     let below : entry-number (said b .goals) p < places (said b) = digits-lt hs hq in
     let long = plan .long in
-    rw (front-entry bytes (drop (room (said b)) before) (entry-number (said b .goals) p) (omega arith)) (plan .right (p .state) (p .goal) hs hq)
+    rw (front-entry bytes (drop (room (said b)) before) (entry-number (said b .goals) p) (omega arith))
+    (plan .right (p .state) (p .goal) hs hq)
 
 module _ {b before after : List ℕ} (done : Planning b before 0 after) where
   keeps : Keeps b
@@ -71,7 +72,8 @@ module _ {b before after : List ℕ} (done : Planning b before 0 after) where
     follow-follows (arena (said b)) (arena-lawful b keeps) few (entry-of b after) (planned-right done refl),
   )
 
-  module _ (σ : Way (arena (said b))) (follows : Follows (arena (said b)) (entry-of b after) σ) (p : Place) (i : Inside (arena (said b)) p) where
+  module _ (σ : Way (arena (said b))) (follows : Follows (arena (said b)) (entry-of b after) σ) (p : Place)
+      (i : Inside (arena (said b)) p) where
     pub followed-wins : entry-of b after p .value ≡ 2 → WinningKept (arena (said b)) (entry-of b after) σ p
     followed-wins = winning-kept (arena (said b)) (arena-lawful b keeps) few (entry-of b after) (planned-right done refl) σ follows p i
 

@@ -1,6 +1,6 @@
 -- The laws of what a set of words and a plan in bytes hold of a job's places: after round 0, after one round more, by sizes, and read back.
 use Prim.Native.Nat.{ℕ, zero, suc, _+_, _*_, _/_, _%_, _≤_, _<_}
-use mathlib.Core.Bool.{Bool, true, false, cond, not, _&&_, _||_, or-false, and-true}
+use mathlib.Core.Bool.{Bool, true, false, cond, not, _&&_, or-false, and-true, _||_}
 use mathlib.Core.List.{List}
 use mathlib.Core.Logic.{⊎-elim, Iff·rfl}
 use mathlib.Core.Path.{_≡_, refl, sym, ap, _∙_, subst}
@@ -12,7 +12,7 @@ use lib.Dec.{ltb}
 use lib.ListN.{getD}
 use Rattle.rules.specs.Sets.{member, count}
 use Rattle.rules.specs.Game.{Inside, Lawful, says}
-use Rattle.rules.specs.Job.{Job, place, places, entry-number, arena}
+use Rattle.rules.specs.Job.{Job, place, places, entry-number, arena, some-below}
 use Rattle.rules.specs.Bytes.{said}
 use Rattle.rules.specs.Plan.{entry, entry-byte, room, Wrote}
 use Rattle.rules.specs.declared.place.Place.{Place}
@@ -22,7 +22,7 @@ use Rattle.rules.proofs.Bits.{below-or, same-or}
 use Rattle.rules.proofs.Entries.{read-back}
 use Rattle.rules.proofs.Members.{count-sub, count-same, count-more}
 use Rattle.rules.proofs.Rows.{row-of}
-use Rattle.rules.proofs.Search.{any, lowest}
+use Rattle.rules.proofs.Search.{lowest}
 use Rattle.rules.proofs.Tests.{and-iff, ltb-iff}
 use Rattle.job.specs.Layout.{Fit, layout}
 use Rattle.job.specs.declared.layout.Layout.{Layout}
@@ -32,7 +32,7 @@ use Rattle.labelling.specs.Pass.{place-at, Pass}
 use Rattle.labelling.specs.Round.{Passed, BegunAll}
 use Rattle.labelling.specs.Rounds.{reached, written, Holds}
 use Rattle.labelling.proofs.Passes.{between-zero}
-use Rattle.labelling.proofs.Agree.{any-wanted-ext, lowest-wanted-ext, reached-up}
+use Rattle.labelling.proofs.Agree.{some-wanted-ext, lowest-wanted-ext, reached-up}
 
 -- ---- places and their numbers
 
@@ -116,17 +116,19 @@ module _ (j : Job) (L : Lawful (arena j)) (some : 0 < j .goals)
 
   -- the two find the same
   module _ (x : ℕ) (l : x < places j) where
-    same-any : any (by-words x) (j .actions) ≡ any (by-places x) (j .actions)
-    same-any =
-        any-wanted-ext L v (in-set (j .goals) ws) (reached v (arena j) f k) (holds-in-set h) (place-at (j .goals) x) (place-inside j some x l)
+    same-some : some-below (j .actions) (by-words x) ≡ some-below (j .actions) (by-places x)
+    same-some =
+        some-wanted-ext L v (in-set (j .goals) ws) (reached v (arena j) f k) (holds-in-set h) (place-at (j .goals) x)
+        (place-inside j some x l)
 
     same-lowest : lowest (by-words x) (j .actions) ≡ lowest (by-places x) (j .actions)
     same-lowest =
-        lowest-wanted-ext L v (in-set (j .goals) ws) (reached v (arena j) f k) (holds-in-set h) (place-at (j .goals) x) (place-inside j some x l)
+        lowest-wanted-ext L v (in-set (j .goals) ws) (reached v (arena j) f k) (holds-in-set h) (place-at (j .goals) x)
+        (place-inside j some x l)
 
   -- the round, of a job
   abbrev new-by-words : ℕ → Bool
-  new-by-words x = not (member ws x) && any (by-words x) (j .actions)
+  new-by-words x = not (member ws x) && some-below (j .actions) (by-words x)
 
   abbrev said-by-words : ℕ → Entry
   said-by-words x = says (phase-value v) (lowest (by-words x) (j .actions)) (suc k)
@@ -142,15 +144,15 @@ module _ (j : Job) (L : Lawful (arena j)) (some : 0 < j .goals)
             λ x. a .joins x
             ∙ rw (between-zero (places j) x, h .members x)
             (⊎-elim
-            (λ (l : x < places j). rw (lt-ltb x (places j) l, same-any x l) (joined (there x) (any (by-places x) (j .actions))))
+            (λ (l : x < places j). rw (lt-ltb x (places j) l, same-some x l) (joined (there x) (some-below (j .actions) (by-places x))))
             (λ (l : places j ≤ x). rw (le-ltb x (places j) l))
             (below-or x (places j)));
         bytes =
             λ y. let x = y / 4 in a .bytes y
             ∙ rw (between-zero (places j) x, h .members x, h .bytes y)
             (⊎-elim
-            (λ (l : x < places j). rw (lt-ltb x (places j) l, same-any x l, same-lowest x l)
-            (rewritten (there x) (any (by-places x) (j .actions)) (says (phase-value v) (lowest (by-places x) (j .actions)) (suc k))
+            (λ (l : x < places j). rw (lt-ltb x (places j) l, same-some x l, same-lowest x l)
+            (rewritten (there x) (some-below (j .actions) (by-places x)) (says (phase-value v) (lowest (by-places x) (j .actions)) (suc k))
             (written v (arena j) f e k (place-at (j .goals) x)) (y % 4)))
             (λ (l : places j ≤ x). rw (le-ltb x (places j) l))
             (below-or x (places j)));

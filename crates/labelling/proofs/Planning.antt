@@ -16,7 +16,8 @@ use Rattle.rules.proofs.Kept.{kept}
 use Rattle.rules.proofs.Unique.{no-overrun}
 use Rattle.labelling.specs.Rounds.{Labelled}
 
-module _ {b before plan : List ℕ} (k : Keeps b) (fits : room (said b) ≤ length before) {over : Bool} (l : Labelled (said b) before over plan) where
+module _ {b before plan : List ℕ} (k : Keeps b) (fits : room (said b) ≤ length before) {over : Bool}
+    (l : Labelled (said b) before over plan) where
   -- beyond the plan the buffer is as before
   same-rest : drop (room (said b)) plan ≡ drop (room (said b)) before
   same-rest =

@@ -20,12 +20,12 @@ use Rattle.job.specs.Layout.{Fit}
 use Rattle.job.specs.declared.layout.Layout.{Layout}
 use Rattle.job.proofs.Asking.{few-places, lawful}
 use Rattle.labelling.specs.declared.scan.Phase.{Phase}
-use Rattle.labelling.specs.declared.scan.Marks.{Marks}
-use Rattle.labelling.specs.Scan.{in-set, Scanned, LowestPassing, marked-for, wanted, phase-value}
+use Rattle.labelling.specs.declared.scan.Tally.{Tally}
+use Rattle.labelling.specs.Scan.{in-set, Scanned, LowestPassing, tallied-for, wanted, phase-value}
 use Rattle.labelling.specs.Pass.{Pass}
 use Rattle.labelling.specs.Round.{Ready, adds, Passed, met-at, Begun}
 use Rattle.labelling.proofs.Passes.{pass-skip, pass-put, pass-write}
-use Rattle.labelling.proofs.Scanning.{LowestCounted, chosen, choice-any}
+use Rattle.labelling.proofs.Scanning.{LowestCounted, chosen, choice-counted}
 
 -- ---- a round's functions, one after the other
 
@@ -34,7 +34,8 @@ pub next-row : (s g : ℕ) → (s + 1) * g ≡ s * g + g
 next-row s g = add-mul s 1 g ∙ ap (λ (x : ℕ). s * g + x) (one-mul g)
 
 -- a pass leaves the set and the plan as long as they were
-pub ready-on : {b : List ℕ} {l : Layout} {s start end : ℕ} {gains writes : ℕ → Bool} {entries : ℕ → Entry} {lo hi : ℕ} {ws plan ws′ plan′ : List ℕ}
+pub ready-on : {b : List ℕ} {l : Layout} {s start end : ℕ} {gains writes : ℕ → Bool} {entries : ℕ → Entry} {lo hi : ℕ}
+    {ws plan ws′ plan′ : List ℕ}
     → Ready b l s start end ws plan → Pass gains writes entries lo hi ws plan ws′ plan′ → Ready b l s start end ws′ plan′
 ready-on r p =
     record { fit = r .fit; state = r .state; range = r .range; words = p .as-many ∙ r .words; room = rw (p .as-long) (r .room) }
@@ -71,12 +72,14 @@ module _ {b : List ℕ} {l : Layout} {s start end q : ℕ} {ws plan : List ℕ} 
     pub passed-old : member old here ≡ true → Passed b l v n old here (here + 1) ws plan ws plan
     passed-old m = pass-skip (rw m) (rw m)
 
-    -- what was chosen from the marks is the lowest action that the round looks for
-    lowest-here : {x : Marks} → Scanned (said b) (in-set (l .goals) old) (place s q) x → (d : LowestAction) → LowestPassing (marked-for v x) d
+    -- what was chosen from the tally is the lowest action that the round looks for
+    lowest-here : {x : Tally} → Scanned (said b) (in-set (l .goals) old) (place s q) x → (d : LowestAction)
+        → LowestPassing (tallied-for v x) d
         → LowestCounted (wanted v (arena (said b)) (in-set (l .goals) old) (place s q)) (said b .actions) d
-    lowest-here k d c = choice-any (lawful (r .fit)) (in-set (l .goals) old) (place s q) v d (chosen k v d c)
+    lowest-here k d c = choice-counted (lawful (r .fit)) (in-set (l .goals) old) (place s q) v d (chosen k v d c)
 
-    module _ {x : Marks} (k : Scanned (said b) (in-set (l .goals) old) (place s q) x) {d : LowestAction} (c : LowestPassing (marked-for v x) d) where
+    module _ {x : Tally} (k : Scanned (said b) (in-set (l .goals) old) (place s q) x) {d : LowestAction}
+        (c : LowestPassing (tallied-for v x) d) where
       -- it has no such action; it is new and has one
       pub passed-none : d ≡ LowestAction.Nothing → Passed b l v n old here (here + 1) ws plan ws plan
       passed-none e =

@@ -1,6 +1,7 @@
--- The laws of looking through the records of one state: where they begin and end, the marks that they leave, and the action that is then chosen.
+-- The laws of looking through the records of one state: where they begin and end, the tally that they leave, and the action that is then
+-- chosen.
 use Prim.Native.Nat.{ℕ, suc, _+_, _≤_, _<_, zero-le}
-use mathlib.Core.Bool.{Bool, true, false, cond, not, _&&_, _||_, and-comm, or-comm}
+use mathlib.Core.Bool.{Bool, true, false, cond, not, _&&_, and-comm, or-comm, _||_}
 use mathlib.Core.List.{List, [], _∷_, _++_, map}
 use mathlib.Core.Logic.{⊎-elim}
 use mathlib.Core.Path.{_≡_, refl, sym, ap, ap₂, _∙_}
@@ -13,19 +14,21 @@ use lib.Dec.{eqb, ltb}
 use Rattle.rules.specs.Sets.{bit}
 use Rattle.rules.specs.Lowest.{LowestOf}
 use Rattle.rules.specs.Game.{Arena, Lawful, Least}
-use Rattle.rules.specs.Job.{Job, is-from, entered, listed, arena}
+use Rattle.rules.specs.Job.{Job, is-from, entered, listed, arena, some-below}
 use Rattle.rules.specs.Bytes.{said}
 use Rattle.rules.specs.declared.place.Place.{Place}
 use Rattle.rules.specs.declared.place.Move.{Move}
 use Rattle.rules.specs.declared.actions.LowestAction.{LowestAction}
-use Rattle.rules.proofs.Search.{any, lowest, every, some, sure, clash, if-not-true, any-true, any-found, lowest-found, least-unique, some-found, sure-at}
+use Rattle.rules.proofs.Search.{lowest, clash, if-not-true, least-unique}
+use Rattle.rules.proofs.Lists.{every, some, sure, some-found, sure-at}
+use Rattle.rules.proofs.Tests.{some-stops, some-met, lowest-found}
 use Rattle.rules.proofs.Bits.{same-or}
 use Rattle.job.specs.Layout.{Fit}
 use Rattle.job.specs.declared.layout.Layout.{Layout}
 use Rattle.job.proofs.Asking.{records-said, sorted}
 use Rattle.labelling.specs.declared.scan.Phase.{Phase}
-use Rattle.labelling.specs.declared.scan.Marks.{Marks}
-use Rattle.labelling.specs.Scan.{From, Range, Marked, Scanned, LowestPassing, marked-for, wanted}
+use Rattle.labelling.specs.declared.scan.Tally.{Tally}
+use Rattle.labelling.specs.Scan.{From, Range, Tallied, Scanned, LowestPassing, tallied-for, wanted}
 
 -- ---- a test run over a list
 
@@ -94,7 +97,7 @@ module _ {b : List ℕ} {l : Layout} (f : Fit b l) {s start k : ℕ} (p : Passin
   pub from-end : l .records ≤ k → From (said b) (s + 1) k
   from-end h = record { few = p .few; below = p .below; above = λ i a c. absurd (omega (arith, records-said f)) }
 
--- ---- the marks that the first k records leave
+-- ---- the tally that the first k records leave
 
 -- a test of the outcome o, listed where x is true
 one-found : (f : ℕ → Bool) (x : Bool) (o : ℕ) → some f (cond x (o ∷ []) []) ≡ (x && f o)
@@ -154,14 +157,14 @@ module _ (j : Job) (f : Place → Bool) (p : Place) where
   found-all : {end : ℕ} → From j (p .state + 1) end → (a : ℕ) → found (j .records) a ≡ found end a
   found-all {end} h a = found-others end (j .records) a (h .few) (λ i l g e. omega (arith, h .above i l g))
 
--- the marks of the first k records
-pub record Scanning (j : Job) (f : Place → Bool) (p : Place) (k : ℕ) (x : Marks) : Type 0 where
+-- the tally of the first k records
+pub record Scanning (j : Job) (f : Place → Bool) (p : Place) (k : ℕ) (x : Tally) : Type 0 where
   pub opens : (a : ℕ) → bit (x .opens .bits) a ≡ found j (λ t. true) p k a
   pub held : (a : ℕ) → bit (x .held .bits) a ≡ found j f p k a
   pub spoilt : (a : ℕ) → bit (x .spoilt .bits) a ≡ found j (λ t. not (f t)) p k a
 
 module _ {j : Job} {f : Place → Bool} {p : Place} where
-  pub scanning-none : {start : ℕ} {x : Marks} → From j (p .state) start → ((a : ℕ) → bit (x .opens .bits) a ≡ false)
+  pub scanning-none : {start : ℕ} {x : Tally} → From j (p .state) start → ((a : ℕ) → bit (x .opens .bits) a ≡ false)
       → ((a : ℕ) → bit (x .held .bits) a ≡ false) → ((a : ℕ) → bit (x .spoilt .bits) a ≡ false) → Scanning j f p start x
   scanning-none h o d e =
       record {
@@ -171,8 +174,9 @@ module _ {j : Job} {f : Place → Bool} {p : Place} where
       }
 
   -- record k, which is m and of this state, is looked at
-  pub scanning-more : {k : ℕ} {m : Move} {x r : Marks} {inside : Bool} → m ≡ j .move k → j .move k .state ≡ p .state → j .move k .action < 16
-      → inside ≡ f (entered j (p .goal) (m .outcome)) → Marked x (m .action) inside r → Scanning j f p k x → Scanning j f p (k + 1) r
+  pub scanning-more : {k : ℕ} {m : Move} {x r : Tally} {inside : Bool} → m ≡ j .move k → j .move k .state ≡ p .state
+      → j .move k .action < 16
+      → inside ≡ f (entered j (p .goal) (m .outcome)) → Tallied x (m .action) inside r → Scanning j f p k x → Scanning j f p (k + 1) r
   scanning-more {k} {m} q s h e n i =
       record {
         opens = λ a. n .opens a ∙ rw (q, i .opens a, few) (sym (found-more j (λ t. true) p k a s));
@@ -183,7 +187,7 @@ module _ {j : Job} {f : Place → Bool} {p : Place} where
       few : ltb (j .move k .action) 16 ≡ true
       few = lt-ltb (j .move k .action) 16 h
 
-  pub scanning-all : {end : ℕ} {x : Marks} → From j (p .state + 1) end → Scanning j f p end x → Scanned j f p x
+  pub scanning-all : {end : ℕ} {x : Tally} → From j (p .state + 1) end → Scanning j f p end x → Scanned j f p x
   scanning-all h i =
       record {
         opens = λ a. i .opens a ∙ sym (found-all j (λ t. true) p h a);
@@ -211,18 +215,18 @@ pub lowest-of : (n : ℕ) {g : ℕ → Bool} → ((a : ℕ) → bit n a ≡ g a)
 lowest-of n e (LowestAction.Is a) h = lowest-same e (LowestAction.Is a) (h .within, h .is-set, h .clear-below)
 lowest-of n e LowestAction.Nothing h = lowest-same e LowestAction.Nothing h
 
-module _ {j : Job} {f : Place → Bool} {p : Place} {x : Marks} (h : Scanned j f p x) where
-  pub marked-wanted : (v : Phase) (a : ℕ) → marked-for v x a ≡ wanted v (arena j) f p a
-  marked-wanted Phase.Winning a = rw (h .opens a, h .spoilt a) (sym (sure-some f (arena j .leads p a)))
-  marked-wanted Phase.Pending a = h .held a
+module _ {j : Job} {f : Place → Bool} {p : Place} {x : Tally} (h : Scanned j f p x) where
+  pub tallied-wanted : (v : Phase) (a : ℕ) → tallied-for v x a ≡ wanted v (arena j) f p a
+  tallied-wanted Phase.Winning a = rw (h .opens a, h .spoilt a) (sym (sure-some f (arena j .leads p a)))
+  tallied-wanted Phase.Pending a = h .held a
 
-  pub chosen : (v : Phase) (r : LowestAction) → LowestPassing (marked-for v x) r → LowestPassing (wanted v (arena j) f p) r
-  chosen v = lowest-same (marked-wanted v)
+  pub chosen : (v : Phase) (r : LowestAction) → LowestPassing (tallied-for v x) r → LowestPassing (wanted v (arena j) f p) r
+  chosen v = lowest-same (tallied-wanted v)
 
 -- an answer names the lowest number below n that passes a test, or says that none below n passes
 abbrev pub LowestCounted : (ℕ → Bool) → ℕ → LowestAction → Type 0
-LowestCounted f n (LowestAction.Is a) = (any f n ≡ true) × (lowest f n ≡ a)
-LowestCounted f n LowestAction.Nothing = any f n ≡ false
+LowestCounted f n (LowestAction.Is a) = (some-below n f ≡ true) × (lowest f n ≡ a)
+LowestCounted f n LowestAction.Nothing = some-below n f ≡ false
 
 module _ {G : Arena} (L : Lawful G) (f : G .Place → Bool) (p : G .Place) where
   -- an action that a phase looks for is open, and so counted
@@ -231,12 +235,12 @@ module _ {G : Arena} (L : Lawful G) (f : G .Place → Bool) (p : G .Place) where
   wanted-counted Phase.Pending a e = let t = some-found f (G .leads p a) e in L .counted p (t .0) a (t .1)
 
   -- so the lowest action that passes is the lowest of those counted
-  pub choice-any : (v : Phase) (r : LowestAction) → LowestPassing (wanted v G f p) r → LowestCounted (wanted v G f p) (G .actions) r
-  choice-any v (LowestAction.Is a) h =
+  pub choice-counted : (v : Phase) (r : LowestAction) → LowestPassing (wanted v G f p) r → LowestCounted (wanted v G f p) (G .actions) r
+  choice-counted v (LowestAction.Is a) h =
       let w = wanted v G f p in
-      let hit = any-true w (G .actions) a (wanted-counted v a (h .1)) (h .1) in
+      let hit = some-stops w (G .actions) a (wanted-counted v a (h .1)) (h .1) in
       let least : Least (λ i. w i ≡ true) a = (h .1, λ m e. let none : m < a → ⊥ = λ l. clash e (h .2 m l) in omega arith) in
       (hit, least-unique (lowest-found w (G .actions) hit .1) least)
-  choice-any v LowestAction.Nothing h =
+  choice-counted v LowestAction.Nothing h =
       let w = wanted v G f p in
-      if-not-true (any w (G .actions)) (λ e. let t = any-found w (G .actions) e in clash (t .2) (h (t .0)))
+      if-not-true (some-below (G .actions) w) (λ e. let t = some-met w (G .actions) e in clash (t .2) (h (t .0)))

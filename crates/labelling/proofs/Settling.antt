@@ -1,6 +1,6 @@
 -- The rounds of a phase as a loop makes them, until one adds nothing; both phases; and the plan that they leave.
 use Prim.Native.Nat.{ℕ, zero, suc, _+_, _*_, _≤_, _<_}
-use mathlib.Core.Bool.{Bool, true, false, _||_, true≢false, false≢true}
+use mathlib.Core.Bool.{Bool, true, false, true≢false, false≢true, _||_}
 use mathlib.Core.List.{List}
 use mathlib.Core.Logic.{inl, inr, ⊎-elim}
 use mathlib.Core.Path.{_≡_, refl, sym, _∙_, subst}
@@ -8,14 +8,13 @@ use native.Mathlib.Numerals.{add-one}
 use native.Mathlib.Omega.{arith}
 use Rattle.rules.specs.Sets.{member, count}
 use Rattle.rules.specs.Game.{Arena, Inside, Lawful, Pending, WinsIn, HopesIn}
-use Rattle.rules.specs.Job.{Job, place, places, arena}
+use Rattle.rules.specs.Job.{Job, place, places, arena, some-below}
 use Rattle.rules.specs.Bytes.{said}
 use Rattle.rules.specs.Keeps.{Keeps}
 use Rattle.rules.specs.declared.place.Place.{Place}
 use Rattle.rules.specs.declared.places.PlaceSet.{PlaceSet}
 use Rattle.rules.specs.declared.entry.Entry.{Entry}
-use Rattle.rules.proofs.Search.{any}
-use Rattle.rules.proofs.Tests.{same-test, last-or-below}
+use Rattle.rules.proofs.Tests.{same-test, last-or-below, some-below-ext}
 use Rattle.rules.proofs.Kept.{places-few, places-some}
 use Rattle.rules.proofs.Arenas.{inside-iff, arena-lawful}
 use Rattle.job.specs.Layout.{Fit}
@@ -25,7 +24,7 @@ use Rattle.labelling.specs.declared.rounds.Rounds.{Rounds}
 use Rattle.labelling.specs.Scan.{wanted}
 use Rattle.labelling.specs.Round.{Passed}
 use Rattle.labelling.specs.Rounds.{reached, written, Holds, Settled, Labelled}
-use Rattle.labelling.proofs.Agree.{any-ext, wanted-ext, reached-up}
+use Rattle.labelling.proofs.Agree.{wanted-ext, reached-up}
 use Rattle.labelling.proofs.Steps.{wins-by, first-says, wins-says, all-right, hope-number, win-number}
 use Rattle.labelling.proofs.Holding.{holds-round, holds-entry, holds-rest, holds-zero, same-size, grew}
 
@@ -40,9 +39,11 @@ last-next : (G : Arena) → Lawful G → (v : Phase) (f : G .Place → Bool) (k 
     → (p : G .Place) → Inside G p → reached v G f (suc (suc k)) p ≡ true → reached v G f (suc k) p ≡ true
 unfolding reached
 last-next G L v f k h p i e =
-    let agree : (t : G .Place) → Inside G t → reached v G f (suc k) t ≡ reached v G f k t = λ t m. same-test (h t m) (reached-up v G f k t) in
-    absorb (reached v G f k p) (any (wanted v G (reached v G f k) p) (G .actions)) (any (wanted v G (reached v G f (suc k)) p) (G .actions))
-    (any-ext _ _ (G .actions) (λ a l. wanted-ext L v (reached v G f (suc k)) (reached v G f k) agree p i a))
+    let agree : (t : G .Place) → Inside G t → reached v G f (suc k) t ≡ reached v G f k t =
+    λ t m. same-test (h t m) (reached-up v G f k t) in
+    absorb (reached v G f k p) (some-below (G .actions) (wanted v G (reached v G f k) p))
+    (some-below (G .actions) (wanted v G (reached v G f (suc k)) p))
+    (some-below-ext _ _ (G .actions) (λ a l. wanted-ext L v (reached v G f (suc k)) (reached v G f k) agree p i a))
     e
 
 -- ---- one phase
@@ -51,7 +52,8 @@ last-next G L v f k h p i e =
 abbrev Added : (j : Job) → Phase → (Place → Bool) → ℕ → Type 0
 Added j v f k = (p : Place) × Inside (arena j) p × (reached v (arena j) f k p ≡ false) × (reached v (arena j) f (suc k) p ≡ true)
 
--- after k rounds of the loop: whatever the words and the plan held at its start, they hold it with k rounds made, and each round added a place
+-- after k rounds of the loop: whatever the words and the plan held at its start, they hold it with k rounds made, and each round added a
+-- place
 pub record Going (j : Job) (v : Phase) (ws₀ plan₀ : List ℕ) (k : ℕ) (ws plan : List ℕ) : Type 0 where
   pub holds : (f : Place → Bool) (e : Place → Entry) (before : List ℕ) → Holds j f e before ws₀ plan₀
       → Holds j (reached v (arena j) f k) (written v (arena j) f e k) before ws plan
@@ -74,7 +76,8 @@ module _ {b : List ℕ} {l : Layout} (t : Fit b l) {v : Phase} {ws₀ plan₀ ws
         added = more;
       })
     where
-      more : (f : Place → Bool) (e : Place → Entry) (before : List ℕ) → Holds (said b) f e before ws₀ plan₀ → (i : ℕ) → i < suc k → Added (said b) v f i
+      more : (f : Place → Bool) (e : Place → Entry) (before : List ℕ) → Holds (said b) f e before ws₀ plan₀ → (i : ℕ) → i < suc k
+          → Added (said b) v f i
       more f e before h i m =
           ⊎-elim
           (λ (q : i ≡ k). rw q (grew v f k (g .holds f e before h) (next f e before h) (t .keeps .some-goals) c))
@@ -143,7 +146,8 @@ labelled-both {b} k w o h =
       right =
           λ z s q ls lq.
           rw (holds-entry (h .holds) s q ls lq)
-          (all-right (arena (said b)) L (w .rounds) (w .last o) (h .rounds) (h .last z) (place s q) (inside-iff (said b) (place s q) .1 (ls, lq)));
+          (all-right (arena (said b)) L (w .rounds) (w .last o) (h .rounds) (h .last z) (place s q)
+          (inside-iff (said b) (place s q) .1 (ls, lq)));
       rest = holds-rest (h .holds);
       overrun =
           λ z.

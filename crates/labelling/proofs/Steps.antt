@@ -4,7 +4,9 @@ use mathlib.Core.Bool.{Bool, true, false, cond, _||_}
 use mathlib.Core.Path.{_≡_, refl, sym, ap, _∙_, subst, subst₂, fun-ext}
 use Rattle.rules.specs.Game.{Arena, Inside, Lawful, Least, Pending, WinsIn, HopesIn, Right, met, says}
 use Rattle.rules.specs.declared.entry.Entry.{Entry}
-use Rattle.rules.proofs.Search.{any, sure, some, clash, if-not-true, has-lowest, least-map, not-yet, new}
+use Rattle.rules.specs.Job.{some-below}
+use Rattle.rules.proofs.Search.{clash, if-not-true, lowest-ext, has-lowest, least-map, not-yet, new}
+use Rattle.rules.proofs.Lists.{sure, some}
 use Rattle.rules.proofs.Rounds.{size, win, hope, won, hoped, win-accepted, win-up, win-settled, win-closed, hope-closed}
 use Rattle.rules.proofs.Values.{wins-iff}
 use Rattle.rules.proofs.Hopes.{hopes-iff}
@@ -12,7 +14,7 @@ use Rattle.rules.proofs.Right.{right-wins, right-hopes, right-loses, pending-at
 use Rattle.labelling.specs.declared.scan.Phase.{Phase}
 use Rattle.labelling.specs.Scan.{wanted}
 use Rattle.labelling.specs.Rounds.{reached, written}
-use Rattle.labelling.proofs.Agree.{wanted-ext, lowest-ext, reached-ext, reached-up, reached-mono, written-old, written-none, written-new}
+use Rattle.labelling.proofs.Agree.{wanted-ext, reached-ext, reached-up, reached-mono, written-old, written-none, written-new}
 
 -- with no round, nothing is reached but what was there
 reached-none : (v : Phase) (G : Arena) (f : G .Place → Bool) (p : G .Place) → reached v G f zero p ≡ true → f p ≡ true
@@ -21,19 +23,22 @@ reached-none v G f p e = e
 
 module _ (G : Arena) where
   -- one round more, as the rounds of the game have it
-  hope-next : (S : G .Place → Bool) (n : ℕ) (p : G .Place) → (hope G S n p || any (λ a. some (hope G S n) (G .leads p a)) (G .actions)) ≡ hope G S (suc n) p
+  hope-next : (S : G .Place → Bool) (n : ℕ) (p : G .Place)
+      → (hope G S n p || some-below (G .actions) (λ a. some (hope G S n) (G .leads p a))) ≡ hope G S (suc n) p
   unfolding hope
   hope-next S n p = go (hope G S n p) refl
     where
-      go : (b : Bool) → hope G S n p ≡ b → (hope G S n p || any (λ a. some (hope G S n) (G .leads p a)) (G .actions)) ≡ hope G S (suc n) p
+      go : (b : Bool) → hope G S n p ≡ b
+          → (hope G S n p || some-below (G .actions) (λ a. some (hope G S n) (G .leads p a))) ≡ hope G S (suc n) p
       go true z = rw (z, hope)
       go false z = rw (z, hope)
 
-  win-next : Lawful G → (n : ℕ) (p : G .Place) → (win G n p || any (λ a. sure (win G n) (G .leads p a)) (G .actions)) ≡ win G (suc n) p
+  win-next : Lawful G → (n : ℕ) (p : G .Place)
+      → (win G n p || some-below (G .actions) (λ a. sure (win G n) (G .leads p a))) ≡ win G (suc n) p
   unfolding win
   win-next L n p = go (win G n p) refl
     where
-      go : (b : Bool) → win G n p ≡ b → (win G n p || any (λ a. sure (win G n) (G .leads p a)) (G .actions)) ≡ win G (suc n) p
+      go : (b : Bool) → win G n p ≡ b → (win G n p || some-below (G .actions) (λ a. sure (win G n) (G .leads p a))) ≡ win G (suc n) p
       go true z = rw z (sym (win-up G L n p z))
       go false z = let u = if-not-true (G .accepted p) (λ y. clash (win-accepted G n p y) z) in rw (z, u, win)
 
@@ -41,13 +46,15 @@ module _ (G : Arena) where
   unfolding reached hope
   reached-hope S zero = refl
   reached-hope S (suc n) =
-      fun-ext (λ p. ap (λ (f : G .Place → Bool). f p || any (wanted Phase.Pending G f p) (G .actions)) (reached-hope S n) ∙ hope-next S n p)
+      fun-ext (λ p. ap (λ (f : G .Place
+      → Bool). f p || some-below (G .actions) (wanted Phase.Pending G f p)) (reached-hope S n) ∙ hope-next S n p)
 
   pub reached-win : Lawful G → (n : ℕ) → reached Phase.Winning G (G .accepted) n ≡ win G n
   unfolding reached win
   reached-win L zero = refl
   reached-win L (suc n) =
-      fun-ext (λ p. ap (λ (f : G .Place → Bool). f p || any (wanted Phase.Winning G f p) (G .actions)) (reached-win L n) ∙ win-next L n p)
+      fun-ext (λ p. ap (λ (f : G .Place
+      → Bool). f p || some-below (G .actions) (wanted Phase.Winning G f p)) (reached-win L n) ∙ win-next L n p)
 
 -- what round 0 says
 abbrev pub first-says : (G : Arena) → G .Place → Entry

@@ -1,3 +1,4 @@
+-- What the promises of labelling are said with.
 pub mod Scan
 pub mod Pass
 pub mod Round

@@ -6,10 +6,10 @@ use mathlib.Core.Path.{_≡_}
 use lib.ListN.{length}
 use Rattle.rules.specs.Sets.{member}
 use Rattle.rules.specs.Game.{says}
-use Rattle.rules.specs.Job.{arena}
+use Rattle.rules.specs.Job.{arena, some-below}
 use Rattle.rules.specs.Bytes.{said}
 use Rattle.rules.specs.declared.entry.Entry.{Entry}
-use Rattle.rules.proofs.Search.{any, lowest}
+use Rattle.rules.proofs.Search.{lowest}
 use Rattle.job.specs.Layout.{Fit}
 use Rattle.job.specs.declared.layout.Layout.{Layout}
 use Rattle.labelling.specs.declared.scan.Phase.{Phase}
@@ -31,7 +31,7 @@ module _ (b : List ℕ) (l : Layout) (v : Phase) (n : ℕ) (old : List ℕ) wher
 
   -- that place has such an action; it has one and is new; what its entry then says
   abbrev pub gains : ℕ → Bool
-  gains x = any (wanted-at x) (said b .actions)
+  gains x = some-below (said b .actions) (wanted-at x)
 
   abbrev pub adds : ℕ → Bool
   adds x = not (member old x) && gains x
@@ -56,4 +56,5 @@ module _ (b : List ℕ) (l : Layout) where
 
   -- round 0 over every place: the set is the places added, and the entries are written
   abbrev pub BegunAll : (plan ws′ plan′ : List ℕ) → Type 0
-  BegunAll plan ws′ plan′ = (ws : List ℕ) × (length ws ≡ 64) × ((x : ℕ) → member ws x ≡ false) × Begun 0 (l .states * l .goals) ws plan ws′ plan′
+  BegunAll plan ws′ plan′ =
+      (ws : List ℕ) × (length ws ≡ 64) × ((x : ℕ) → member ws x ≡ false) × Begun 0 (l .states * l .goals) ws plan ws′ plan′

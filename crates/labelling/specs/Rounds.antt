@@ -7,12 +7,12 @@ use lib.Dec.{ltb}
 use lib.ListN.{length, getD}
 use Rattle.rules.specs.Sets.{member}
 use Rattle.rules.specs.Game.{Arena, Inside, Right, says}
-use Rattle.rules.specs.Job.{Job, place, places, entry-number, arena}
+use Rattle.rules.specs.Job.{Job, place, places, entry-number, arena, some-below}
 use Rattle.rules.specs.Plan.{entry, entry-byte, room}
 use Rattle.rules.specs.Calls.{Overrun}
 use Rattle.rules.specs.declared.place.Place.{Place}
 use Rattle.rules.specs.declared.entry.Entry.{Entry}
-use Rattle.rules.proofs.Search.{any, lowest}
+use Rattle.rules.proofs.Search.{lowest}
 use Rattle.labelling.specs.declared.scan.Phase.{Phase}
 use Rattle.labelling.specs.declared.rounds.Rounds.{Rounds}
 use Rattle.labelling.specs.Scan.{wanted, phase-value}
@@ -22,14 +22,14 @@ module _ (v : Phase) (G : Arena) where
   -- the places of f and those that n rounds add
   unfoldable pub reached : (G .Place → Bool) → ℕ → G .Place → Bool
   reached f zero p = f p
-  reached f (suc n) p = reached f n p || any (wanted v G (reached f n) p) (G .actions)
+  reached f (suc n) p = reached f n p || some-below (G .actions) (wanted v G (reached f n) p)
 
   -- the entries of e, and of the places that n rounds add
   unfoldable pub written : (G .Place → Bool) → (G .Place → Entry) → ℕ → G .Place → Entry
   written f e zero p = e p
   written f e (suc n) p =
       cond (reached f n p) (written f e n p)
-      (cond (any (wanted v G (reached f n) p) (G .actions))
+      (cond (some-below (G .actions) (wanted v G (reached f n) p))
       (says (phase-value v) (lowest (wanted v G (reached f n) p) (G .actions)) (suc n))
       (written f e n p))
 
@@ -42,7 +42,8 @@ pub record Holds (j : Job) (f : Place → Bool) (e : Place → Entry) (before ws
       ≡ cond (ltb (y / 4) (places j)) (entry-byte (e (place-at (j .goals) (y / 4))) (y % 4)) (getD before y 0)
 
 -- What the rounds of a phase leave, from f and e on: the last adds nothing; or, over, round S·Q adds a place.
-pub record Settled (j : Job) (v : Phase) (f : Place → Bool) (e : Place → Entry) (before : List ℕ) (r : Rounds) (plan : List ℕ) : Type 0 where
+pub record Settled (j : Job) (v : Phase) (f : Place → Bool) (e : Place → Entry) (before : List ℕ) (r : Rounds)
+    (plan : List ℕ) : Type 0 where
   pub rounds : ℕ
   pub holds : Holds j (reached v (arena j) f rounds) (written v (arena j) f e rounds) before (r .set .words) plan
   pub last : r .over ≡ false → (p : Place) → Inside (arena j) p
@@ -53,6 +54,7 @@ pub record Settled (j : Job) (v : Phase) (f : Place → Bool) (e : Place → Ent
 -- What labelling leaves: each entry is right and the rest as before; or, over, some place has the number S·Q.
 pub record Labelled (j : Job) (before : List ℕ) (over : Bool) (plan : List ℕ) : Type 0 where
   pub as-long : length plan ≡ length before
-  pub right : over ≡ false → (s q : ℕ) → s < j .states → q < j .goals → Right (arena j) (place s q) (entry plan (entry-number (j .goals) (place s q)))
+  pub right : over ≡ false → (s q : ℕ) → s < j .states → q < j .goals
+      → Right (arena j) (place s q) (entry plan (entry-number (j .goals) (place s q)))
   pub rest : (y : ℕ) → room j ≤ y → getD plan y 0 ≡ getD before y 0
   pub overrun : over ≡ true → Overrun j

@@ -9,9 +9,9 @@ use Rattle.rules.specs.Game.{Arena}
 use Rattle.rules.specs.Job.{Job, entry-number, arena}
 use Rattle.rules.specs.declared.place.Place.{Place}
 use Rattle.rules.specs.declared.actions.LowestAction.{LowestAction}
-use Rattle.rules.proofs.Search.{some, sure}
+use Rattle.rules.proofs.Lists.{some, sure}
 use Rattle.labelling.specs.declared.scan.Phase.{Phase}
-use Rattle.labelling.specs.declared.scan.Marks.{Marks}
+use Rattle.labelling.specs.declared.scan.Tally.{Tally}
 
 -- the places of a set, with so many goal states
 abbrev pub in-set : ℕ → List ℕ → Place → Bool
@@ -30,13 +30,13 @@ pub record Range (j : Job) (s start end : ℕ) : Type 0 where
   pub in-order : start ≤ end
 
 -- x with one record more: its action a is open, and held or spoilt
-pub record Marked (x : Marks) (a : ℕ) (inside : Bool) (r : Marks) : Type 0 where
+pub record Tallied (x : Tally) (a : ℕ) (inside : Bool) (r : Tally) : Type 0 where
   pub opens : (k : ℕ) → bit (r .opens .bits) k ≡ (ltb a 16 && eqb k a || bit (x .opens .bits) k)
   pub held : (k : ℕ) → bit (r .held .bits) k ≡ (inside && (ltb a 16 && eqb k a) || bit (x .held .bits) k)
   pub spoilt : (k : ℕ) → bit (r .spoilt .bits) k ≡ (not inside && (ltb a 16 && eqb k a) || bit (x .spoilt .bits) k)
 
--- the marks of p: open where an action has an outcome, held where it has one of which f is true, spoilt where it has one of which it is not
-pub record Scanned (j : Job) (f : Place → Bool) (p : Place) (r : Marks) : Type 0 where
+-- the tally of p: open where an action has an outcome, held where it has one of which f is true, spoilt where it has one of which it is not
+pub record Scanned (j : Job) (f : Place → Bool) (p : Place) (r : Tally) : Type 0 where
   pub opens : (a : ℕ) → bit (r .opens .bits) a ≡ some (λ t. true) (arena j .leads p a)
   pub held : (a : ℕ) → bit (r .held .bits) a ≡ some f (arena j .leads p a)
   pub spoilt : (a : ℕ) → bit (r .spoilt .bits) a ≡ some (λ t. not (f t)) (arena j .leads p a)
@@ -46,10 +46,10 @@ abbrev pub LowestPassing : (ℕ → Bool) → LowestAction → Type 0
 LowestPassing f (LowestAction.Is a) = (a < 16) × (f a ≡ true) × ((k : ℕ) → k < a → f k ≡ false)
 LowestPassing f LowestAction.Nothing = (k : ℕ) → f k ≡ false
 
--- the actions that a phase looks for among the marks
-abbrev pub marked-for : Phase → Marks → ℕ → Bool
-marked-for Phase.Winning x a = bit (x .opens .bits) a && not (bit (x .spoilt .bits) a)
-marked-for Phase.Pending x a = bit (x .held .bits) a
+-- the actions that a phase looks for in a tally
+abbrev pub tallied-for : Phase → Tally → ℕ → Bool
+tallied-for Phase.Winning x a = bit (x .opens .bits) a && not (bit (x .spoilt .bits) a)
+tallied-for Phase.Pending x a = bit (x .held .bits) a
 
 -- the actions that a phase looks for at p, with the places of f reached: open with every outcome there, or with some outcome there
 abbrev pub wanted : Phase → (G : Arena) → (G .Place → Bool) → G .Place → ℕ → Bool

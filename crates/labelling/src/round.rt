@@ -43,8 +43,8 @@ fn label_place(
     if rules::places::has_place(old, i) {
         return;
     }
-    let marks = crate::scan::scan(job, l, old, s, q, start, end);
-    match crate::scan::choose(marks, phase) {
+    let tally = crate::scan::scan(job, l, old, s, q, start, end);
+    match crate::scan::choose(tally, phase) {
         LowestAction::Is(action) => {
             rules::places::put_place(new, i);
             let value = value_of(phase);

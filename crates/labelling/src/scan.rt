@@ -4,7 +4,7 @@ ghost use Prim.Native.Nat.{_+_, _<_, _≤_};
 ghost use Rattle.rules.specs.Bytes.{said};
 ghost use Rattle.rules.specs.Job.{entered, place};
 ghost use Rattle.job.specs.Layout.{Fit};
-ghost use Rattle.labelling.specs.Scan.{in-set, From, Range, Marked, Scanned, LowestPassing, marked-for};
+ghost use Rattle.labelling.specs.Scan.{in-set, From, Range, Tallied, Scanned, LowestPassing, tallied-for};
 use job::layout::Layout;
 use rules::actions::ActionSet;
 use rules::actions::LowestAction;
@@ -16,7 +16,7 @@ pub enum Phase {
 }
 
 // Sets of actions at a place: those with a record, those with an outcome in the set of places, and those with one outside it.
-pub struct Marks {
+pub struct Tally {
     pub opens: ActionSet,
     pub held: ActionSet,
     pub spoilt: ActionSet,
@@ -51,15 +51,15 @@ fn is_inside(job: &[u8], l: Layout, words: &[u64; 64], q: usize, t: usize) -> bo
     rules::places::has_place(words, t * l.goals + g)
 }
 
-// The marks with one record more: its action is open, and held or spoilt by its outcome.
-fn mark(x: Marks, action: u8, inside: bool) -> Marks
-    ensures { λ r. ⌜ Marked x action inside r ⌝ }
+// The tally with one record more: its action is open, and held or spoilt by its outcome.
+fn add_record(x: Tally, action: u8, inside: bool) -> Tally
+    ensures { λ r. ⌜ Tallied x action inside r ⌝ }
 {
     let opens = x.opens.with(action);
     if inside {
         let held = x.held.with(action);
         let spoilt = x.spoilt;
-        return Marks {
+        return Tally {
             opens,
             held,
             spoilt,
@@ -67,14 +67,14 @@ fn mark(x: Marks, action: u8, inside: bool) -> Marks
     }
     let held = x.held;
     let spoilt = x.spoilt.with(action);
-    Marks {
+    Tally {
         opens,
         held,
         spoilt,
     }
 }
 
-// The marks of the place of state s and goal state q: the records of s are those from start up to end.
+// The tally of the place of state s and goal state q: the records of s are those from start up to end.
 pub fn scan(
     job: &[u8],
     l: Layout,
@@ -83,7 +83,7 @@ pub fn scan(
     q: usize,
     start: usize,
     end: usize,
-) -> Marks
+) -> Tally
     requires { ⌜ Fit (now job) l ⌝ }
     requires { ⌜ q < l .goals ⌝ }
     requires { ⌜ Range (said (now job)) s start end ⌝ }
@@ -92,7 +92,7 @@ pub fn scan(
     let opens = ActionSet::none();
     let held = ActionSet::none();
     let spoilt = ActionSet::none();
-    let mut x = Marks {
+    let mut x = Tally {
         opens,
         held,
         spoilt,
@@ -101,15 +101,15 @@ pub fn scan(
     while k < end {
         let m = job::ask::move_at(job, l, k);
         let inside = is_inside(job, l, words, q, m.outcome as usize);
-        x = mark(x, m.action, inside);
+        x = add_record(x, m.action, inside);
         k += 1;
     }
     x
 }
 
 // The lowest action that the phase looks for: one that is open and not spoilt, or one that is held.
-pub fn choose(x: Marks, phase: Phase) -> LowestAction
-    ensures { λ r. ⌜ LowestPassing (marked-for phase x) r ⌝ }
+pub fn choose(x: Tally, phase: Phase) -> LowestAction
+    ensures { λ r. ⌜ LowestPassing (tallied-for phase x) r ⌝ }
 {
     match phase {
         Phase::Winning => {

@@ -9,7 +9,7 @@ use denote.Ref.{RefT, now}
 use Rattle.rules.specs.Job.{upto}
 use Rattle.rules.specs.Bytes.{refusal, said}
 use Rattle.rules.specs.Examples.{plate}
-use Rattle.rules.proofs.Kept.{refusal-range}
+use Rattle.rules.proofs.Numbers.{refusal-range}
 use Rattle.reader.specs.Handed.{moves-in, handed, cursor, opened, hands, after}
 use Rattle.reader.specs.declared.Handed.{Handed}
 use Rattle.reader.specs.declared.MoveReader.{MoveReader}

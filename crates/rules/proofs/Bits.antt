@@ -1,10 +1,11 @@
 -- The laws of `bit`: what the machine's operations do to the bits of a number, and what the bits say of its size.
 use mathlib.Core.Path.{_≡_, refl, sym, ap, _∙_, subst}
-use mathlib.Core.Bool.{Bool, true, false, _&&_, _||_, not, xor, and-true, true≢false}
+use mathlib.Core.Bool.{Bool, true, false, _&&_, not, xor, and-true, true≢false, _||_}
 use mathlib.Core.Logic.{_⊎_, inl, inr, ⊎-elim}
 use Prim.Native.Nat.{ℕ, zero, suc, _+_, _-_, _*_, _/_, _%_, _^_, _≤_, _<_}
 use native.Mathlib.Omega.{arith}
-use native.Mathlib.Nat.{mod-lt, mod-eq-of-lt, div-eq-of-lt, div-lt-iff-lt-mul, lt-of-lt-of-le, pow-suc, pow-succ', one-mul, mul-mod-left, div-one}
+use native.Mathlib.Nat.{mod-lt, mod-eq-of-lt, div-eq-of-lt, div-lt-iff-lt-mul, lt-of-lt-of-le, pow-suc, pow-succ', one-mul, mul-mod-left}
+use native.Mathlib.Nat.{div-one}
 use native.Mathlib.Numerals.{one-add}
 use native.Mathlib.Decide.{decLt, ℕ-discrete}
 use borrow.Author.Tests.{lt-ltb, le-ltb, eq-eqb, ne-eqb, eqb-false}
@@ -87,7 +88,8 @@ clear-above (suc w) n p h f =
     top e =
         let d : n / 2 ^ w < 2 = div-lt-iff-lt-mul (pow-pos w) .1 (rw (pow-succ' 2 w) at h) in
         let o : n / 2 ^ w % 2 ≡ 1 → ⊥ = eqb-false (n / 2 ^ w % 2) 1 e in
-        let z : n / 2 ^ w < 1 = ⊎-elim (λ (q : n / 2 ^ w ≡ 0). omega arith) (λ (q : n / 2 ^ w ≡ 1). absurd (o (omega arith))) (two (n / 2 ^ w) d) in
+        let z : n / 2 ^ w < 1 =
+        ⊎-elim (λ (q : n / 2 ^ w ≡ 0). omega arith) (λ (q : n / 2 ^ w ≡ 1). absurd (o (omega arith))) (two (n / 2 ^ w) d) in
         rw one-mul at (div-lt-iff-lt-mul (pow-pos w) .0 z)
 
 -- ---- one digit, and the low digits
@@ -110,7 +112,8 @@ bit-pow i k = ⊎-elim same other (same-or k i)
     other n =
         rw (ne-eqb k i n)
         (⊎-elim
-        (λ (h : k < i). let e : suc (i - k - 1) + k ≡ i = omega arith in subst (λ (x : ℕ). bit (2 ^ x) k ≡ false) e (bit-pow-under (i - k - 1) k))
+        (λ (h : k < i). let e : suc (i - k - 1) + k ≡ i = omega arith in
+        subst (λ (x : ℕ). bit (2 ^ x) k ≡ false) e (bit-pow-under (i - k - 1) k))
         (λ h. bit-above (2 ^ i) k k (pow-lt (omega arith)) (omega arith))
         (below-or k i))
 
@@ -133,7 +136,8 @@ one-shl a w h = shl-exact 1 a w (omega arith) (omega arith) ∙ one-mul (2 ^ a)
 -- the w low digits all set
 pub bit-ones : (w k : ℕ) → bit (2 ^ w - 1) k ≡ ltb k w
 bit-ones w k =
-    ap (λ (b : Bool). b && bit (2 ^ w - 1) k) (sym (bit-pow-same k)) ∙ sym (bit-and (2 ^ k) (2 ^ w - 1) k) ∙ ap (λ (x : ℕ). bit x k) (and-mask (2 ^ k) w)
+    ap (λ (b : Bool). b && bit (2 ^ w - 1) k) (sym (bit-pow-same k)) ∙ sym (bit-and (2 ^ k) (2 ^ w - 1) k)
+    ∙ ap (λ (x : ℕ). bit x k) (and-mask (2 ^ k) w)
     ∙ bit-mod (2 ^ k) w k ∙ ap (λ (b : Bool). ltb k w && b) (bit-pow-same k) ∙ and-true (ltb k w)
 
 pub bit-not : (n w k : ℕ) → n < 2 ^ w → bit ((2 ^ w - 1) - n) k ≡ (ltb k w && not (bit n k))

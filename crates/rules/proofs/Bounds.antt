@@ -5,7 +5,9 @@ use mathlib.Core.List.{List, List·Memᴰ}
 use mathlib.Core.Path.{_≡_, refl}
 use native.Mathlib.Omega.{arith}
 use lib.ListN.{length}
-use Rattle.rules.proofs.Search.{if-not-true, not-yet, count, count-length, climb}
+use Rattle.rules.proofs.Search.{if-not-true, not-yet}
+use Rattle.rules.proofs.Lists.{how-many, how-many-length}
+use Rattle.rules.proofs.Climbs.{climb}
 use Rattle.rules.specs.Game.{Arena, Inside, Unmet, Lawful, Winning, WinsIn, HopesIn}
 use Rattle.rules.proofs.Rounds.{size, won, win, win-accepted, win-up, win-below, win-ladder, hope-below}
 use Rattle.rules.proofs.Values.{wins-iff, win-winning}
@@ -32,16 +34,20 @@ module _ (G : Arena) (L : Lawful G) where
   pub wins-within : (n : ℕ) (p : G .Place) → Inside G p → WinsIn G p n → (ws : List (G .Place))
       → ((t : G .Place) → Inside G t → Winning G t → Unmet G t → List·Memᴰ t ws) → n ≤ length ws
   wins-within n p i w ws h =
-      let most : count (ahead zero) ws + n ≤ count (ahead n) ws = climb ahead ahead-up ws n step in
-      let fits : count (ahead n) ws ≤ length ws = count-length (ahead n) ws in
+      let most : how-many (ahead zero) ws + n ≤ how-many (ahead n) ws = climb ahead ahead-up ws n step in
+      let fits : how-many (ahead n) ws ≤ length ws = how-many-length (ahead n) ws in
       omega arith
     where
       step : (k : ℕ) → k < n → (t : G .Place) × List·Memᴰ t ws × (ahead k t ≡ false) × (ahead (suc k) t ≡ true)
       step k d =
           let t = win-ladder G L n p i (wins-iff G L n p .0 w) (suc k) d in
           let l = t .2 in
-          let u : Unmet G (t .0) = if-not-true _ (λ y. let x : suc k ≤ 0 = l .1 0 (win-accepted G 0 (t .0) y) in omega arith) in
-          (t .0, h (t .0) (t .1) (win-winning G L (suc k) (t .0) (l .0)) u, rw (ahead-is k (t .0) u) (not-yet (λ j. win G j (t .0)) k l), rw (ahead-is (suc k) (t .0) u) (l .0))
+          let u : Unmet G (t .0) = if-not-true _ (λ y. let x : suc k ≤ 0 = l .1 0 (win-accepted G 0 (t .0) y) in omega arith) in (
+            t .0,
+            h (t .0) (t .1) (win-winning G L (suc k) (t .0) (l .0)) u,
+            rw (ahead-is k (t .0) u) (not-yet (λ j. win G j (t .0)) k l),
+            rw (ahead-is (suc k) (t .0) u) (l .0),
+          )
 
   pub wins-below : (n : ℕ) (p : G .Place) → Inside G p → WinsIn G p n → n < size G
   wins-below n p i w = win-below G L n p i (wins-iff G L n p .0 w)

@@ -13,7 +13,11 @@ use Rattle.rules.proofs.Following.{says-wins, says-hopes, losing-says, 
 module _ (G : Arena) (L : Lawful G) where
   pub value-told : {p : G .Place} {x : Entry} → Right G p x → ValueTold G p x
   value-told {p} {x} r =
-      record { winning = (winning r, of-winning r); pending = (λ q. says-hopes G L p r q .0, of-pending r); losing = (losing r, losing-says G L p r) }
+      record {
+        winning = (winning r, of-winning r);
+        pending = (λ q. says-hopes G L p r q .0, of-pending r);
+        losing = (losing r, losing-says G L p r);
+      }
     where
       winning : {x : Entry} → Right G p x → x .value ≡ 2 → Winning G p
       winning (lost l) q = absurd (omega arith)
@@ -39,7 +43,8 @@ module _ (G : Arena) (L : Lawful G) where
       losing (wins u w s) q = absurd (omega arith)
       losing (hopes h k s) q = absurd (omega arith)
 
-  module _ (few : G .actions ≤ 255) (e : G .Place → Entry) (right : (p : G .Place) → Inside G p → Right G p (e p)) (σ : Way G) (follows : Follows G e σ)
+  module _ (few : G .actions ≤ 255) (e : G .Place → Entry) (right : (p : G .Place) → Inside G p → Right G p (e p)) (σ : Way G)
+      (follows : Follows G e σ)
       (p : G .Place) (i : Inside G p) where
     pub winning-kept : e p .value ≡ 2 → WinningKept G e σ p
     winning-kept q =

@@ -1,6 +1,6 @@
 -- A plan's entry: the four stores write it, it is read back as it was written, and `Wrote` determines the buffer.
 use mathlib.Core.Path.{_≡_, refl, sym, ap, _∙_}
-use mathlib.Core.Bool.{Bool, false, _||_, or-false}
+use mathlib.Core.Bool.{Bool, false, or-false, _||_}
 use mathlib.Core.List.{List}
 use mathlib.Core.Logic.{⊎-elim}
 use Prim.Native.Nat.{ℕ, zero, suc, _+_, _*_, _/_, _%_, _≤_, _<_}

@@ -1,4 +1,5 @@
--- To follow a plan: it meets the goal in the number of moves that it names, where it can be forced, and may come nearer in that number, where it can be hoped for.
+-- To follow a plan: it meets the goal in the number of moves that it names, where it can be forced, and may come nearer in that number,
+-- where it can be hoped for.
 use Prim.Native.Nat.{ℕ, zero, suc, _≤_, _<_, zero-le}
 use mathlib.Core.Bool.{true, false, cond}
 use mathlib.Core.List.{List, [], _∷_, List·Memᴰ, List·Memᴰ·head, List·Memᴰ·not-nil}
@@ -8,9 +9,12 @@ use native.Mathlib.Nat.{le-of-suc-le-suc}
 use native.Mathlib.Omega.{arith}
 use borrow.Author.Tests.{eq-eqb, ne-eqb}
 use lib.Dec.{eqb}
-use Rattle.rules.proofs.Search.{clash, if-not-true, least-unique, not-yet, some-found, sure-at}
+use Rattle.rules.proofs.Search.{clash, if-not-true, least-unique, not-yet}
+use Rattle.rules.proofs.Lists.{some-found, sure-at}
 use Rattle.rules.specs.declared.entry.Entry.{Entry}
-use Rattle.rules.specs.Game.{Arena, Play, begin, last, made, Choice, stop, act, Inside, Listed, Open, Accepted, Unmet, Lawful, Way, run, Obeys, Follows, Forces, Winning, Pending, Losing, WinsIn, HopesIn, Sure, Hopeful, Right, lost, met, wins, hopes, Least}
+use Rattle.rules.specs.Game.{Arena, Play, begin, last, made, Choice, stop, act, Inside, Listed, Open, Accepted, Unmet, Lawful, Way}
+use Rattle.rules.specs.Game.{run, Obeys, Follows, Forces, Winning, Pending, Losing, WinsIn, HopesIn, Sure, Hopeful, Right, lost, met}
+use Rattle.rules.specs.Game.{wins, hopes, Least}
 use Rattle.rules.proofs.Rounds.{size, won, hoped, win, win-accepted}
 use Rattle.rules.proofs.Plays.{met-later, some-obeys}
 use Rattle.rules.proofs.Values.{delays, guided-meets, wins-iff, win-winning, accepted-winning}
@@ -107,7 +111,8 @@ module _ (G : Arena) (L : Lawful G) (few : G .actions ≤ 255) where
     follow-follows h i = go (right-named (right (last h) i))
       where
         go : Open G (last h) (e (last h) .action) ⊎ (e (last h) .action ≡ 255)
-            → heed (e (last h) .action) (G .leads (last h) (e (last h) .action)) ≡ cond (eqb (e (last h) .action) 255) stop (act (e (last h) .action))
+            → heed (e (last h) .action) (G .leads (last h) (e (last h) .action))
+            ≡ cond (eqb (e (last h) .action) 255) stop (act (e (last h) .action))
         go (inl o) = rw (open-named o) (heed-act _ _ o)
         go (inr q) =
             rw (eq-eqb (e (last h) .action) 255 q)
@@ -133,7 +138,8 @@ module _ (G : Arena) (L : Lawful G) (few : G .actions ≤ 255) where
       pub plan-toward : (h : Play (G .Place)) (n : ℕ) → Inside G (last h) → Least (λ k. hoped G k (last h) ≡ true) (suc n)
           → (a : ℕ) × (t : G .Place) × (σ .choose h ≡ act a) × Listed G (last h) a t × Inside G t × (hoped G n t ≡ true)
       plan-toward h n j l =
-          let s = hopes-says G L (last h) (suc n) (right (last h) j) (pending-at G L (last h) j n l) (hopes-iff G L (suc n) (last h) j .1 l) in
+          let s =
+          hopes-says G L (last h) (suc n) (right (last h) j) (pending-at G L (last h) j n l) (hopes-iff G L (suc n) (last h) j .1 l) in
           let a = e (last h) .action in
           let t = some-found _ _ (hopeful-iff G L (last h) j n l a .0 (s .1)) in
           (a, t .0, acts h j (t .0, t .1), t .1, L .closed (last h) (t .0) a j (t .1), t .2)

@@ -5,15 +5,19 @@ use mathlib.Core.Logic.{_⊎_, inl, inr, ⊎-elim, _↔_}
 use mathlib.Core.Path.{_≡_, ap}
 use native.Mathlib.Nat.{le-trans}
 use native.Mathlib.Omega.{arith}
-use Rattle.rules.proofs.Search.{either, clash, if-not-true, least-unique, lowest, lowest-is, has-lowest, some, some-found, some-true}
-use Rattle.rules.specs.Game.{Arena, Play, begin, then, last, made, act, Inside, Listed, Open, Accepted, Unmet, Lawful, Way, advance, run, Obeys, Winning, Reaches, Possible, Pending, Losing, WinsIn, HopesIn, Least}
-use Rattle.rules.proofs.Rounds.{size, won, hoped, win, hope, win-accepted, win-step, hope-up, hope-mono, hope-step, hope-into, into-hope, hope-down, hope-settled}
+use Rattle.rules.proofs.Search.{either, clash, if-not-true, least-unique, lowest, lowest-is, has-lowest}
+use Rattle.rules.proofs.Lists.{some, some-found, some-true}
+use Rattle.rules.specs.Game.{Arena, Play, begin, then, last, made, act, Inside, Listed, Open, Accepted, Unmet, Lawful, Way, advance}
+use Rattle.rules.specs.Game.{run, Obeys, Winning, Reaches, Possible, Pending, Losing, WinsIn, HopesIn, Least}
+use Rattle.rules.proofs.Rounds.{size, won, hoped, win, hope, win-accepted, win-step, hope-up, hope-mono, hope-step, hope-into}
+use Rattle.rules.proofs.Rounds.{into-hope, hope-down, hope-settled}
 use Rattle.rules.proofs.Plays.{Next, over, on, next, fair-on, first, obeys-first, some-obeys}
 use Rattle.rules.proofs.Values.{seek, seek-finds, wins-iff, winning-iff, winning-dec, win-winning}
 
 module _ (G : Arena) (L : Lawful G) where
   -- a play stays inside
-  pub run-inside : (σ : Way G) (n : ℕ) (h : Play (G .Place)) (o : ℕ → G .Place) → Inside G (last h) → Obeys G σ o h → Inside G (last (run G σ o h n))
+  pub run-inside : (σ : Way G) (n : ℕ) (h : Play (G .Place)) (o : ℕ → G .Place) → Inside G (last h) → Obeys G σ o h
+      → Inside G (last (run G σ o h n))
   run-inside σ zero h o m b = m
   run-inside σ (suc n) h o m b = run-inside σ n (advance G σ h (o zero)) (λ i. o (suc i)) (go (next G σ h)) (λ i a. b (suc i) a)
     where
@@ -35,9 +39,11 @@ module _ (G : Arena) (L : Lawful G) where
 
     -- S has the places where plays end
     module _ (wide : (p : G .Place) → Accepted G p → S p ≡ true) where
-      -- A way that names, where n + 1 moves are needed, an action after which n may do, may come to S in time. (D: the places that it has to do with)
+      -- A way that names, where n + 1 moves are needed, an action after which n may do, may come to S in time. (D: the places that it has
+      -- to do with)
       module _ (σ : Way G) (D : G .Place → Type 0)
-          (guide : (h : Play (G .Place)) (n : ℕ) → D (last h) → Least (λ k. hope G S k (last h) ≡ true) (suc n) → (a : ℕ) × (t : G .Place) × (σ .choose h ≡ act a) × Listed G (last h) a t × D t × (hope G S n t ≡ true)) where
+          (guide : (h : Play (G .Place)) (n : ℕ) → D (last h) → Least (λ k. hope G S k (last h) ≡ true) (suc n)
+          → (a : ℕ) × (t : G .Place) × (σ .choose h ≡ act a) × Listed G (last h) a t × D t × (hope G S n t ≡ true)) where
         pub guided-comes : (n : ℕ) (h : Play (G .Place)) → D (last h) → Least (λ k. hope G S k (last h) ≡ true) n
             → (o : ℕ → G .Place) × Obeys G σ o h × (S (last (run G σ o h n)) ≡ true) × (made (run G σ o h n) ≡ made h + n)
         unfolding hope
@@ -67,7 +73,8 @@ module _ (G : Arena) (L : Lawful G) where
           (seek G (toward n) (toward-open n), c .0, c .1, c .2)
         where
           guide : (h : Play (G .Place)) (m : ℕ) → hope G S n (last h) ≡ true → Least (λ k. hope G S k (last h) ≡ true) (suc m)
-              → (a : ℕ) × (t : G .Place) × (seek G (toward n) (toward-open n) .choose h ≡ act a) × Listed G (last h) a t × (hope G S n t ≡ true) × (hope G S m t ≡ true)
+              → (a : ℕ) × (t : G .Place) × (seek G (toward n) (toward-open n) .choose h ≡ act a) × Listed G (last h) a t
+              × (hope G S n t ≡ true) × (hope G S m t ≡ true)
           guide h m d k =
               let i = hope-into G S m (last h) k in
               let r : pred (lowest (λ k. hope G S k (last h)) (suc n)) ≡ m = ap pred (lowest-is (λ k. hope G S k (last h)) n (suc m) d k) in
@@ -80,19 +87,24 @@ module _ (G : Arena) (L : Lawful G) where
   unfolding hope
   hope-wider S T w zero p e = w p e
   hope-wider S T w (suc n) p e =
-      ⊎-elim (λ y. hope-up G T n p (hope-wider S T w n p y)) (λ i. into-hope G T L n p (i .1) (i .0) (i .2) (hope-wider S T w n (i .1) (i .3))) (hope-step G S n p e)
+      ⊎-elim (λ y. hope-up G T n p (hope-wider S T w n p y))
+      (λ i. into-hope G T L n p (i .1) (i .0) (i .2) (hope-wider S T w n (i .1) (i .3))) (hope-step G S n p e)
 
   win-hope : (n : ℕ) (p : G .Place) → win G n p ≡ true → hope G (G .accepted) n p ≡ true
   unfolding win hope
   win-hope zero p e = e
   win-hope (suc n) p e =
-      ⊎-elim (λ y. hope-mono G (G .accepted) zero (suc n) p zero-le y) (λ i. let o = i .1 in into-hope G (G .accepted) L n p (o .0) (i .0) (o .1) (win-hope n (o .0) (i .2 (o .0) (o .1)))) (win-step G n p e)
+      ⊎-elim (λ y. hope-mono G (G .accepted) zero (suc n) p zero-le y)
+      (λ i. let o = i .1 in into-hope G (G .accepted) L n p (o .0) (i .0) (o .1) (win-hope n (o .0) (i .2 (o .0) (o .1))))
+      (win-step G n p e)
 
   hopes-accepted : (n : ℕ) (p : G .Place) → hoped G n p ≡ true → (m : ℕ) × (hope G (G .accepted) m p ≡ true)
   unfolding hope
   hopes-accepted zero p e = (size G, win-hope (size G) p e)
   hopes-accepted (suc n) p e =
-      ⊎-elim (λ y. hopes-accepted n p y) (λ i. let m = hopes-accepted n (i .1) (i .3) in (suc (m .0), into-hope G (G .accepted) L (m .0) p (i .1) (i .0) (i .2) (m .1))) (hope-step G (won G) n p e)
+      ⊎-elim (λ y. hopes-accepted n p y)
+      (λ i. let m = hopes-accepted n (i .1) (i .3) in (suc (m .0), into-hope G (G .accepted) L (m .0) p (i .1) (i .0) (i .2) (m .1)))
+      (hope-step G (won G) n p e)
 
   pub hopes-possible : (n : ℕ) (p : G .Place) → hoped G n p ≡ true → Possible G p
   hopes-possible n p e =
@@ -102,10 +114,16 @@ module _ (G : Arena) (L : Lawful G) where
 
   -- The goal can be hoped for from the places of the last round of hope.
   pub possible-iff : (p : G .Place) → Inside G p → Possible G p ↔ (hoped G (size G) p ≡ true)
-  possible-iff p m = (λ r. hope-settled G (won G) L (r .0) p m (hope-wider (G .accepted) (won G) (λ q y. win-accepted G (size G) q y) (r .0) p (reach-hope (G .accepted) (r .1 .0) (r .0) (begin p) (r .1 .1) (r .1 .2) (r .1 .3))), hopes-possible (size G) p)
+  possible-iff p m = (
+    λ r. hope-settled G (won G) L (r .0) p m
+        (hope-wider (G .accepted) (won G) (λ q y. win-accepted G (size G) q y) (r .0) p
+        (reach-hope (G .accepted) (r .1 .0) (r .0) (begin p) (r .1 .1) (r .1 .2) (r .1 .3))),
+    hopes-possible (size G) p,
+  )
 
   pub reaches-hopes : (n : ℕ) (p : G .Place) → Inside G p → Reaches G (Winning G) p n → hoped G n p ≡ true
-  reaches-hopes n p m r = reach-hope (won G) (r .0) n (begin p) (r .1) (r .2) (winning-iff G L _ (run-inside (r .0) n (begin p) (r .1) m (r .2)) .0 (r .3))
+  reaches-hopes n p m r =
+      reach-hope (won G) (r .0) n (begin p) (r .1) (r .2) (winning-iff G L _ (run-inside (r .0) n (begin p) (r .1) m (r .2)) .0 (r .3))
 
   pub hopes-reaches : (n : ℕ) (p : G .Place) → Least (λ k. hoped G k p ≡ true) n → Reaches G (Winning G) p n
   hopes-reaches n p l =
@@ -114,7 +132,14 @@ module _ (G : Arena) (L : Lawful G) where
 
   -- The number of a place that can be hoped for is the round of hope that it comes in with.
   pub hopes-iff : (n : ℕ) (p : G .Place) → Inside G p → HopesIn G p n ↔ Least (λ k. hoped G k p ≡ true) n
-  hopes-iff n p m = (λ h. (reaches-hopes n p m (h .0), λ k q. let l = has-lowest (λ i. hoped G i p) k q in le-trans (h .1 (l .0) (hopes-reaches (l .0) p (l .2))) (l .1)), λ l. (hopes-reaches n p l, λ k r. l .1 k (reaches-hopes k p m r)))
+  hopes-iff n p m = (
+    λ h. (
+      reaches-hopes n p m (h .0),
+      λ k q. let l = has-lowest (λ i. hoped G i p) k q in
+          le-trans (h .1 (l .0) (hopes-reaches (l .0) p (l .2))) (l .1),
+    ),
+    λ l. (hopes-reaches n p l, λ k r. l .1 k (reaches-hopes k p m r)),
+  )
 
   -- ---- the three values
 
@@ -134,7 +159,8 @@ module _ (G : Arena) (L : Lawful G) where
   winning-number p m w = let l = has-lowest (λ k. win G k p) (size G) (winning-iff G L p m .0 w) in (l .0, wins-iff G L (l .0) p .1 (l .2))
 
   pub pending-number : (p : G .Place) → Inside G p → Pending G p → (n : ℕ) × HopesIn G p n
-  pending-number p m h = let l = has-lowest (λ k. hoped G k p) (size G) (possible-iff p m .0 (h .1)) in (l .0, hopes-iff (l .0) p m .1 (l .2))
+  pending-number p m h =
+      let l = has-lowest (λ k. hoped G k p) (size G) (possible-iff p m .0 (h .1)) in (l .0, hopes-iff (l .0) p m .1 (l .2))
 
 module _ (G : Arena) where
   -- no place has two of the values

@@ -1,6 +1,9 @@
 -- The laws that belong to no one function.
-pub mod Tests
 pub mod Search
+pub mod Lists
+pub mod Climbs
+pub mod Tests
+pub mod Order
 pub mod Rounds
 pub mod Plays
 pub mod Values
@@ -10,6 +13,8 @@ pub mod Bounds
 pub mod Following
 pub mod Demands
 pub mod Rows
+pub mod Judged
+pub mod Numbers
 pub mod Kept
 pub mod Arenas
 pub mod Figures

@@ -31,4 +31,5 @@ trailing-lowest (suc w) n p h =
         })
 
     odd : n % 2 ≡ 1 → IsLowest n (suc w) (under (n % 2) (trailingZeros w (n / 2)))
-    odd e = rw e (record { within = omega arith; is-set = bit-zero n ∙ ap (λ (x : ℕ). eqb x 1) e; clear-below = λ k q. absurd (omega arith) })
+    odd e =
+        rw e (record { within = omega arith; is-set = bit-zero n ∙ ap (λ (x : ℕ). eqb x 1) e; clear-below = λ k q. absurd (omega arith) })

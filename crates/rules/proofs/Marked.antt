@@ -10,11 +10,12 @@ use Rattle.rules.specs.Keeps.{Keeps}
 use Rattle.rules.specs.Calls.{is-place}
 use Rattle.rules.specs.Examples.{plate, early, Case, marked}
 use Rattle.rules.specs.declared.entry.Entry.{Entry}
-use Rattle.rules.proofs.Search.{any, lowest, every, every-at, some, sure}
-use Rattle.rules.proofs.Rounds.{win, hope}
-use Rattle.rules.proofs.Right.{by-rounds, right-iff}
+use Rattle.rules.proofs.Search.{lowest}
+use Rattle.rules.proofs.Lists.{every, every-at, some, sure}
 use Rattle.rules.proofs.Tests.{and-iff, eqb-iff, ltb-iff}
 use Rattle.rules.proofs.Kept.{kept}
+use Rattle.rules.proofs.Rounds.{win, hope}
+use Rattle.rules.proofs.Right.{by-rounds, right-iff}
 use Rattle.rules.proofs.Arenas.{inside-iff, arena-lawful}
 
 same-entry : Entry → Entry → Bool
@@ -28,18 +29,23 @@ holds c =
     && same-entry (by-rounds (arena (said (c .job))) (c .at)) (c .entry))
 
 all-hold : every holds marked ≡ true
-unfolding same-entry holds by-rounds win hope any lowest every some sure
+unfolding same-entry holds by-rounds win hope lowest every some sure
 all-hold = refl
 
 case-right : (c : Case) → holds c ≡ true → Keeps (c .job) × Right (arena (said (c .job))) (c .at) (c .entry)
 unfolding holds same-entry
 case-right c h =
     let b = c .job in
-    let t = and-iff (eqb-iff _ _) (and-iff (and-iff (ltb-iff _ _) (ltb-iff _ _)) (and-iff (eqb-iff _ _) (and-iff (eqb-iff _ _) (eqb-iff _ _)))) .0 h in
+    let t =
+    and-iff (eqb-iff _ _)
+    (and-iff (and-iff (ltb-iff _ _) (ltb-iff _ _)) (and-iff (eqb-iff _ _) (and-iff (eqb-iff _ _) (eqb-iff _ _)))) .0 h in
     let k = kept b .0 (t .0) in
     let e = t .1 .1 in
-    let i = inside-iff (said b) (c .at) .1 (t .1 .0) in
-    (k, right-iff (arena (said b)) (arena-lawful b k) (c .at) i (c .entry) .1 (λ j. says (sym (e .0) j) (sym (e .1 .0) j) (sym (e .1 .1) j)))
+    let i = inside-iff (said b) (c .at) .1 (t .1 .0) in (
+      k,
+      right-iff (arena (said b)) (arena-lawful b k) (c .at) i (c .entry) .1
+          (λ j. says (sym (e .0) j) (sym (e .1 .0) j) (sym (e .1 .1) j)),
+    )
 
 -- Each marked case is right: the job keeps the rules, and the plan says at the place what the table has.
 pub marked-right : (c : Case) → List·Memᴰ c marked → Keeps (c .job) × Right (arena (said (c .job))) (c .at) (c .entry)

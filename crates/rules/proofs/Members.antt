@@ -1,6 +1,6 @@
 -- The laws of `member`, one place more in a set among them, and of `count`: how many, and what the sizes of two sets say.
 use mathlib.Core.Path.{_≡_, refl, sym, ap, ap₂, _∙_, subst}
-use mathlib.Core.Bool.{Bool, true, false, _||_, false≢true}
+use mathlib.Core.Bool.{Bool, true, false, false≢true, _||_}
 use mathlib.Core.List.{List}
 use mathlib.Core.Logic.{⊎-elim}
 use Prim.Native.Nat.{ℕ, zero, suc, _+_, _*_, _/_, _%_, _^_, _<_, _≤_}
@@ -114,11 +114,13 @@ ones-count (suc w) n h =
     ∙ sym (count-front (bit n) w)
 
 -- one word more of a set
-pub count-word : (ws : List ℕ) (i : ℕ) → getD ws i 0 < 2 ^ 64 → count (member ws) (64 * (i + 1)) ≡ count (member ws) (64 * i) + ones (getD ws i 0)
+pub count-word : (ws : List ℕ) (i : ℕ) → getD ws i 0 < 2 ^ 64
+    → count (member ws) (64 * (i + 1)) ≡ count (member ws) (64 * i) + ones (getD ws i 0)
 count-word ws i h =
     let e : 64 * (i + 1) ≡ 64 * i + 64 = omega arith in
     ap (count (member ws)) e ∙ count-add (member ws) (64 * i) 64
-    ∙ ap (λ (x : ℕ). count (member ws) (64 * i) + x) (count-ext (λ j. member ws (64 * i + j)) (bit (getD ws i 0)) 64 inside ∙ sym (ones-count 64 (getD ws i 0) h))
+    ∙ ap (λ (x : ℕ). count (member ws) (64 * i) + x)
+    (count-ext (λ j. member ws (64 * i + j)) (bit (getD ws i 0)) 64 inside ∙ sym (ones-count 64 (getD ws i 0) h))
   where
     inside : (j : ℕ) → j < 64 → member ws (64 * i + j) ≡ bit (getD ws i 0) j
     inside j l = ap₂ (λ (x y : ℕ). bit (getD ws x 0) y) (omega arith) (omega arith)
@@ -144,7 +146,8 @@ module _ (f g : ℕ → Bool) (h : (x : ℕ) → f x ≡ true → g x ≡ true) 
       (λ (p : n ≤ x). let q : n ≡ x = omega arith in subst (λ (y : ℕ). f y ≡ g y) q (go (f n) (g n) (h n) (count-sub n) e .1))
       (below-or x n)
     where
-      go : (a b : Bool) → (a ≡ true → b ≡ true) → count f n ≤ count g n → count g n + one b ≤ count f n + one a → (count g n ≤ count f n) × (a ≡ b)
+      go : (a b : Bool) → (a ≡ true → b ≡ true) → count f n ≤ count g n → count g n + one b ≤ count f n + one a → (count g n ≤ count f n)
+          × (a ≡ b)
       go true true k l e = (omega arith, refl)
       go true false k l e = absurd (false≢true (k refl))
       go false true k l e = absurd (omega arith)

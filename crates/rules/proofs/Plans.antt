@@ -49,4 +49,5 @@ module _ (j : Job) (L : Lawful (arena j)) where
           let z : 4 * i + y % 4 ≡ y = omega arith in
           let l : i < places j = omega arith in
           subst (λ (x : ℕ). getD p x 0 ≡ getD p′ x 0) z
-          (same-bytes p p′ i (y % 4) (omega arith) (a .bytes (4 * i + 2) (omega arith)) (b .bytes (4 * i + 2) (omega arith)) (same-entry a b i l))
+          (same-bytes p p′ i (y % 4) (omega arith) (a .bytes (4 * i + 2) (omega arith)) (b .bytes (4 * i + 2) (omega arith))
+          (same-entry a b i l))

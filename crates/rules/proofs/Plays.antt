@@ -38,7 +38,8 @@ module _ (G : Arena) (σ : Way G) where
   first t o zero = t
   first t o (suc n) = o n
 
-  pub obeys-first : (h : Play (G .Place)) (t : G .Place) (o : ℕ → G .Place) → Fair h t → Obeys G σ o (advance G σ h t) → Obeys G σ (first t o) h
+  pub obeys-first : (h : Play (G .Place)) (t : G .Place) (o : ℕ → G .Place) → Fair h t → Obeys G σ o (advance G σ h t)
+      → Obeys G σ (first t o) h
   obeys-first h t o f b zero a = f a
   obeys-first h t o f b (suc n) a = b n a
 
@@ -72,7 +73,8 @@ module _ (G : Arena) (σ : Way G) where
   met-stays h e t = rw e
 
   -- the goal once met stays met
-  pub met-later : (o : ℕ → G .Place) (h : Play (G .Place)) (m n : ℕ) → m ≤ n → Accepted G (last (run G σ o h m)) → Accepted G (last (run G σ o h n))
+  pub met-later : (o : ℕ → G .Place) (h : Play (G .Place)) (m n : ℕ) → m ≤ n → Accepted G (last (run G σ o h m))
+      → Accepted G (last (run G σ o h n))
   met-later o h zero n l e = rw (run-over o h n (met-stays h e)) e
   met-later o h (suc m) zero l e = absurd (omega arith)
   met-later o h (suc m) (suc n) l e = met-later (λ i. o (suc i)) (advance G σ h (o zero)) m n (omega arith) e

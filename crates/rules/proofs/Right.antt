@@ -5,9 +5,12 @@ use mathlib.Core.Logic.{_⊎_, inl, inr, _↔_}
 use mathlib.Core.Path.{_≡_, refl, sym, subst}
 use native.Mathlib.Nat.{le-of-suc-le-suc}
 use native.Mathlib.Omega.{arith}
-use Rattle.rules.proofs.Search.{clash, if-not-true, not-yet, least-unique, least-map, has-lowest, lowest, lowest-found, lowest-passes, any-true, some, sure, some-found, some-true, sure-at, sure-true}
+use Rattle.rules.proofs.Search.{clash, if-not-true, not-yet, least-unique, least-map, has-lowest, lowest, lowest-passes}
+use Rattle.rules.proofs.Lists.{some, sure, some-found, some-true, sure-at, sure-true}
+use Rattle.rules.proofs.Tests.{lowest-found, some-stops}
 use Rattle.rules.specs.declared.entry.Entry.{Entry}
-use Rattle.rules.specs.Game.{Arena, Inside, Unmet, Lawful, Winning, Pending, HopesIn, Sure, Hopeful, Right, lost, met, wins, hopes, Least, says}
+use Rattle.rules.specs.Game.{Arena, Inside, Unmet, Lawful, Winning, Pending, HopesIn, Sure, Hopeful, Right, lost, met, wins, hopes}
+use Rattle.rules.specs.Game.{Least, says}
 use Rattle.rules.proofs.Rounds.{size, won, hoped, win, hope, win-accepted, win-mono, win-into, hope-mono, hope-into, hope-down}
 use Rattle.rules.proofs.Values.{wins-iff, winning-iff, win-winning, accepted-winning}
 use Rattle.rules.proofs.Hopes.{hopes-possible, possible-iff, hopes-iff, wins-winning}
@@ -32,14 +35,25 @@ module _ (G : Arena) (L : Lawful G) where
   -- ---- the actions to name, as tests
 
   pub sure-iff : (p : G .Place) (n a : ℕ) → Sure G p (suc n) a ↔ (sure (win G n) (G .leads p a) ≡ true)
-  sure-iff p n a = (λ s. sure-true _ _ (s .0) (λ t m. let w = s .1 t m in win-mono G L (w .0) n t (le-of-suc-le-suc (w .2)) (wins-iff G L (w .0) t .0 (w .1) .0)), λ e. let s = sure-at _ _ e in (s .0, λ t m. let l = has-lowest (λ k. win G k t) n (s .1 t m) in (l .0, wins-iff G L (l .0) t .1 (l .2), suc-le-suc (l .1))))
+  sure-iff p n a = (
+    λ s. sure-true _ _ (s .0) (λ t m. let w = s .1 t m in
+        win-mono G L (w .0) n t (le-of-suc-le-suc (w .2)) (wins-iff G L (w .0) t .0 (w .1) .0)),
+    λ e. let s = sure-at _ _ e in
+        (s .0, λ t m. let l = has-lowest (λ k. win G k t) n (s .1 t m) in (l .0, wins-iff G L (l .0) t .1 (l .2), suc-le-suc (l .1))),
+  )
 
   -- a place that is first hoped for by n moves is winning, or pending with that number
   hoped-kind : (t : G .Place) → Inside G t → (n : ℕ) → Least (λ k. hoped G k t ≡ true) n
       → ((suc n ≡ 1) × Winning G t) ⊎ ((m : ℕ) × (suc n ≡ suc m) × Pending G t × HopesIn G t m)
   unfolding hope
   hoped-kind t i zero l = inl (refl, win-winning G L (size G) t (l .0))
-  hoped-kind t i (suc n) l = inr (suc n, refl, (λ w. let x : suc n ≤ 0 = l .1 0 (winning-iff G L t i .0 w) in omega arith, hopes-possible G L (suc n) t (l .0)), hopes-iff G L (suc n) t i .1 l)
+  hoped-kind t i (suc n) l =
+      inr (
+        suc n,
+        refl,
+        (λ w. let x : suc n ≤ 0 = l .1 0 (winning-iff G L t i .0 w) in omega arith, hopes-possible G L (suc n) t (l .0)),
+        hopes-iff G L (suc n) t i .1 l,
+      )
 
   -- where n + 1 moves are hoped for, the hopeful actions are those that may lead to where n are
   pub hopeful-iff : (p : G .Place) → Inside G p → (n : ℕ) → Least (λ k. hoped G k p ≡ true) (suc n) → (a : ℕ)
@@ -67,22 +81,25 @@ module _ (G : Arena) (L : Lawful G) where
       let o = j .1 in
       let u : Unmet G p = if-not-true _ (λ y. clash (win-accepted G n p y) (not-yet (λ k. win G k p) n l)) in
       let a = lowest-found (λ a. sure (win G n) (G .leads p a)) (G .actions)
-      (any-true _ _ (j .0) (L .counted p (o .0) (j .0) (o .1)) (sure-true _ _ o (j .2))) in
+      (some-stops _ _ (j .0) (L .counted p (o .0) (j .0) (o .1)) (sure-true _ _ o (j .2))) in
       wins u (wins-iff G L (suc n) p .1 l) (least-map (λ a. (sure-iff p n a .1, sure-iff p n a .0)) (a .1))
 
   -- where it is first hoped for by n + 1 moves
   pub pending-at : (p : G .Place) → Inside G p → (n : ℕ) → Least (λ k. hoped G k p ≡ true) (suc n) → Pending G p
   unfolding hope
-  pending-at p i n l =
-      (λ w. clash (hope-mono G (won G) 0 n p zero-le (winning-iff G L p i .0 w)) (not-yet (λ k. hoped G k p) n l), hopes-possible G L (suc n) p (l .0))
+  pending-at p i n l = (
+    λ w. clash (hope-mono G (won G) 0 n p zero-le (winning-iff G L p i .0 w)) (not-yet (λ k. hoped G k p) n l),
+    hopes-possible G L (suc n) p (l .0),
+  )
 
   pub right-hopes : (p : G .Place) → Inside G p → (n : ℕ) → Least (λ k. hoped G k p ≡ true) (suc n)
       → Right G p (says 1 (lowest (λ a. some (hoped G n) (G .leads p a)) (G .actions)) (suc n))
   right-hopes p i n l =
       let j = hope-into G (won G) n p l in
       let a = lowest-found (λ a. some (hoped G n) (G .leads p a)) (G .actions)
-      (any-true _ _ (j .0) (L .counted p (j .1) (j .0) (j .2)) (some-true _ _ (j .1) (j .2) (j .3))) in
-      hopes (pending-at p i n l) (hopes-iff G L (suc n) p i .1 l) (least-map (λ a. (hopeful-iff p i n l a .1, hopeful-iff p i n l a .0)) (a .1))
+      (some-stops _ _ (j .0) (L .counted p (j .1) (j .0) (j .2)) (some-true _ _ (j .1) (j .2) (j .3))) in
+      hopes (pending-at p i n l) (hopes-iff G L (suc n) p i .1 l)
+      (least-map (λ a. (hopeful-iff p i n l a .1, hopeful-iff p i n l a .0)) (a .1))
 
   -- where it is never hoped for
   pub right-loses : (p : G .Place) → Inside G p → hoped G (size G) p ≡ false → Right G p (says 0 255 0)
@@ -99,12 +116,15 @@ module _ (G : Arena) (L : Lawful G) where
     where
       go : (b : Bool) → G .accepted p ≡ b → (c : Bool) → won G p ≡ c → (d : Bool) → hoped G (size G) p ≡ d → Right G p (by-rounds G p)
       go true y c w d h = rw (y, by-rounds) (met y)
-      go false u true w d h = rw (u, w, by-rounds) (winning (lowest (λ k. win G k p) (suc (size G))) (lowest-passes (λ k. win G k p) (size G) w))
+      go false u true w d h =
+          rw (u, w, by-rounds) (winning (lowest (λ k. win G k p) (suc (size G))) (lowest-passes (λ k. win G k p) (size G) w))
         where
-          winning : (n : ℕ) → Least (λ k. win G k p ≡ true) n → Right G p (says 2 (lowest (λ a. sure (win G (pred n)) (G .leads p a)) (G .actions)) n)
+          winning : (n : ℕ) → Least (λ k. win G k p ≡ true) n
+              → Right G p (says 2 (lowest (λ a. sure (win G (pred n)) (G .leads p a)) (G .actions)) n)
           winning zero l = absurd (clash (l .0) u)
           winning (suc n) l = right-wins p n l
-      go false u false w true h = rw (u, w, h, by-rounds) (pending (lowest (λ k. hoped G k p) (suc (size G))) (lowest-passes (λ k. hoped G k p) (size G) h))
+      go false u false w true h =
+          rw (u, w, h, by-rounds) (pending (lowest (λ k. hoped G k p) (suc (size G))) (lowest-passes (λ k. hoped G k p) (size G) h))
         where
           pending : (n : ℕ) → Least (λ k. hoped G k p ≡ true) n
               → Right G p (says 1 (lowest (λ a. some (hoped G (pred n)) (G .leads p a)) (G .actions)) n)
@@ -117,7 +137,8 @@ module _ (G : Arena) (L : Lawful G) where
 
   -- ---- and no second one
 
-  same-entry : (Q : ℕ → ℕ → Type 0) (v : ℕ) {n n′ a a′ : ℕ} → n ≡ n′ → Least (Q n) a → Least (Q n′) a′ → _≡_ {A = Entry} (says v a n) (says v a′ n′)
+  same-entry : (Q : ℕ → ℕ → Type 0) (v : ℕ) {n n′ a a′ : ℕ} → n ≡ n′ → Least (Q n) a → Least (Q n′) a′
+      → _≡_ {A = Entry} (says v a n) (says v a′ n′)
   same-entry Q v {a} e l k = let q = least-unique (subst (λ m. Least (Q m) a) e l) k in λ i. says v (q i) (e i)
 
   pub right-unique : {p : G .Place} {e e′ : Entry} → Right G p e → Right G p e′ → e ≡ e′

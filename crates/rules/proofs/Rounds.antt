@@ -6,18 +6,22 @@ use mathlib.Core.Path.{_≡_, refl}
 use native.Mathlib.Omega.{arith}
 use native.Mathlib.Nat.{le-of-suc-le-suc}
 use lib.ListN.{length}
-use Rattle.rules.proofs.Search.{clash, stays, new, not-yet, first-below, settled, closed, ladder, if-not-true, any, any-true, any-found, some, sure, some-found, some-true, sure-at, sure-true, sure-fails}
+use Rattle.rules.specs.Job.{some-below}
+use Rattle.rules.proofs.Search.{clash, stays, new, not-yet, if-not-true}
+use Rattle.rules.proofs.Lists.{some, sure, some-found, some-true, sure-at, sure-true, sure-fails}
+use Rattle.rules.proofs.Climbs.{first-below, settled, closed, ladder}
+use Rattle.rules.proofs.Tests.{some-stops, some-met}
 use Rattle.rules.specs.Game.{Arena, Inside, Listed, Open, Accepted, Lawful, Least}
 
 -- round 0: the goal is met; round n + 1: it is met, or some open action leads to round n only
 unfoldable pub win : (G : Arena) → ℕ → G .Place → Bool
 win G zero p = G .accepted p
-win G (suc n) p = elim (G .accepted p) [ true ↦ true | false ↦ any (λ a. sure (λ t. win G n t) (G .leads p a)) (G .actions) ]
+win G (suc n) p = elim (G .accepted p) [ true ↦ true | false ↦ some-below (G .actions) (λ a. sure (λ t. win G n t) (G .leads p a)) ]
 
 -- round 0: the places of S; round n + 1: round n, or some action may lead to round n
 unfoldable pub hope : (G : Arena) (S : G .Place → Bool) → ℕ → G .Place → Bool
 hope G S zero p = S p
-hope G S (suc n) p = elim (hope G S n p) [ true ↦ true | false ↦ any (λ a. some (λ t. hope G S n t) (G .leads p a)) (G .actions) ]
+hope G S (suc n) p = elim (hope G S n p) [ true ↦ true | false ↦ some-below (G .actions) (λ a. some (λ t. hope G S n t) (G .leads p a)) ]
 
 -- how many places count: rounds enough
 abbrev pub size : Arena → ℕ
@@ -47,7 +51,7 @@ module _ (G : Arena) where
       go : (b : Bool) → G .accepted p ≡ b → Accepted G p ⊎ Into n p
       go true z = inl z
       go false z =
-          let f = any-found _ _ (rw (z, win) at e) in
+          let f = some-met (λ a. sure (win G n) (G .leads p a)) (G .actions) (rw (z, win) at e) in
           let s = sure-at _ _ (f .2) in
           inr (f .0, s .0, s .1)
 
@@ -58,7 +62,7 @@ module _ (G : Arena) where
       where
         go : (b : Bool) → G .accepted p ≡ b → win G (suc n) p ≡ true
         go true z = rw (z, win)
-        go false z = rw (z, win) (any-true _ _ (i .0) (L .counted p _ _ (i .1 .1)) (sure-true _ _ (i .1) (i .2)))
+        go false z = rw (z, win) (some-stops _ _ (i .0) (L .counted p _ _ (i .1 .1)) (sure-true _ _ (i .1) (i .2)))
 
     pub win-up : (n : ℕ) (p : G .Place) → win G n p ≡ true → win G (suc n) p ≡ true
     win-up zero p e = win-accepted 1 p (unfold win in e)
@@ -72,13 +76,16 @@ module _ (G : Arena) where
         → (t : G .Place) × Listed G p (i .0) t × Least (λ k. win G k t ≡ true) n
     win-down zero p l i = let o = i .1 in (o .0, o .1, (i .2 (o .0) (o .1), λ m q. zero-le))
     win-down (suc n) p l i =
-        let s : sure (λ t. win G n t) (G .leads p (i .0)) ≡ false = if-not-true _ (λ e. let h : suc (suc n) ≤ suc n = l .1 (suc n) (into-win n p (i .0, i .1, (sure-at _ _ e) .1)) in omega arith) in
+        let s : sure (λ t. win G n t) (G .leads p (i .0)) ≡ false =
+        if-not-true _ (λ e. let h : suc (suc n) ≤ suc n = l .1 (suc n) (into-win n p (i .0, i .1, (sure-at _ _ e) .1)) in omega arith)
+        in
         let t = sure-fails _ _ (i .1) s in
         (t .0, t .1, new (λ k. win G k (t .0)) (λ k. win-up k (t .0)) n (t .2) (i .2 (t .0) (t .1)))
 
     -- so every such place has an action of that kind
     pub win-into : (n : ℕ) (p : G .Place) → Least (λ k. win G k p ≡ true) (suc n) → Into n p
-    win-into n p l = ⊎-elim (λ e. let h : suc n ≤ zero = l .1 zero (win-accepted zero p e) in absurd (omega arith)) (λ i. i) (win-step n p (l .0))
+    win-into n p l =
+        ⊎-elim (λ e. let h : suc n ≤ zero = l .1 zero (win-accepted zero p e) in absurd (omega arith)) (λ i. i) (win-step n p (l .0))
 
     win-down-inside : (n : ℕ) (p : G .Place) → Inside G p → Least (λ k. win G k p ≡ true) (suc n)
         → (t : G .Place) × Inside G t × Least (λ k. win G k t ≡ true) n
@@ -96,13 +103,15 @@ module _ (G : Arena) where
     win-ladder n p m l k h = ladder (win G) win-up (G .all) win-down-inside n p m l k h
 
     -- a round that adds no place inside is the last
-    pub win-closed : (n : ℕ) → ((t : G .Place) → Inside G t → win G (suc n) t ≡ true → win G n t ≡ true) → (m : ℕ) (p : G .Place) → Inside G p
+    pub win-closed : (n : ℕ) → ((t : G .Place) → Inside G t → win G (suc n) t ≡ true → win G n t ≡ true) → (m : ℕ) (p : G .Place)
+        → Inside G p
         → win G m p ≡ true → win G n p ≡ true
     win-closed n h m p i e = closed (win G) win-up (G .all) win-down-inside n h m p i e
 
     -- what a round adds
     pub win-new : (n : ℕ) (p : G .Place) → Least (λ k. win G k p ≡ true) (suc n) ↔ ((win G n p ≡ false) × Into n p)
-    win-new n p = (λ l. (not-yet (λ k. win G k p) n l, win-into n p l), λ r. new (λ k. win G k p) (λ k. win-up k p) n (r .0) (into-win n p (r .1)))
+    win-new n p =
+        (λ l. (not-yet (λ k. win G k p) n l, win-into n p l), λ r. new (λ k. win G k p) (λ k. win-up k p) n (r .0) (into-win n p (r .1)))
 
   module _ (S : G .Place → Bool) where
     pub hope-up : (n : ℕ) (p : G .Place) → hope G S n p ≡ true → hope G S (suc n) p ≡ true
@@ -120,7 +129,7 @@ module _ (G : Arena) where
         go : (b : Bool) → hope G S n p ≡ b → (hope G S n p ≡ true) ⊎ ((a : ℕ) × (t : G .Place) × Listed G p a t × (hope G S n t ≡ true))
         go true z = inl z
         go false z =
-            let f = any-found _ _ (rw (z, hope) at e) in
+            let f = some-met (λ a. some (hope G S n) (G .leads p a)) (G .actions) (rw (z, hope) at e) in
             let s = some-found _ _ (f .2) in
             inr (f .0, s .0, s .1, s .2)
 
@@ -135,7 +144,7 @@ module _ (G : Arena) where
         where
           go : (b : Bool) → hope G S n p ≡ b → hope G S (suc n) p ≡ true
           go true z = rw (z, hope)
-          go false z = rw (z, hope) (any-true _ _ a (L .counted p t a m) (some-true _ _ t m e))
+          go false z = rw (z, hope) (some-stops _ _ a (L .counted p t a m) (some-true _ _ t m e))
 
       pub hope-down : (n : ℕ) (p t : G .Place) (a : ℕ) → Least (λ k. hope G S k p ≡ true) (suc n) → Listed G p a t → hope G S n t ≡ true
           → Least (λ k. hope G S k t ≡ true) n
@@ -143,7 +152,8 @@ module _ (G : Arena) where
 
       hope-down-inside : (n : ℕ) (p : G .Place) → Inside G p → Least (λ k. hope G S k p ≡ true) (suc n)
           → (t : G .Place) × Inside G t × Least (λ k. hope G S k t ≡ true) n
-      hope-down-inside n p m l = let i = hope-into n p l in (i .1, L .closed p (i .1) (i .0) m (i .2), hope-down n p (i .1) (i .0) l (i .2) (i .3))
+      hope-down-inside n p m l =
+          let i = hope-into n p l in (i .1, L .closed p (i .1) (i .0) m (i .2), hope-down n p (i .1) (i .0) l (i .2) (i .3))
 
       pub hope-below : (n : ℕ) (p : G .Place) → Inside G p → Least (λ k. hope G S k p ≡ true) n → n < size G
       hope-below n p m l = first-below (hope G S) hope-up (G .all) hope-down-inside n p m l
@@ -156,5 +166,9 @@ module _ (G : Arena) where
       hope-closed n h m p i e = closed (hope G S) hope-up (G .all) hope-down-inside n h m p i e
 
       pub hope-new : (n : ℕ) (p : G .Place)
-          → Least (λ k. hope G S k p ≡ true) (suc n) ↔ ((hope G S n p ≡ false) × ((a : ℕ) × (t : G .Place) × Listed G p a t × (hope G S n t ≡ true)))
-      hope-new n p = (λ l. (not-yet (λ k. hope G S k p) n l, hope-into n p l), λ r. new (λ k. hope G S k p) (λ k. hope-up k p) n (r .0) (let i = r .1 in into-hope n p (i .1) (i .0) (i .2) (i .3)))
+          → Least (λ k. hope G S k p ≡ true) (suc n)
+          ↔ ((hope G S n p ≡ false) × ((a : ℕ) × (t : G .Place) × Listed G p a t × (hope G S n t ≡ true)))
+      hope-new n p = (
+        λ l. (not-yet (λ k. hope G S k p) n l, hope-into n p l),
+        λ r. new (λ k. hope G S k p) (λ k. hope-up k p) n (r .0) (let i = r .1 in into-hope n p (i .1) (i .0) (i .2) (i .3)),
+      )

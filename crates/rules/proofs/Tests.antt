@@ -1,4 +1,4 @@
--- Laws of the tests: what a test that passes says, for `&&`, `||`, the tests over all numbers below one, and the order of records.
+-- Laws of the tests: what a test that passes says, for `&&`, `||`, the order of numbers, and the tests over all numbers below one.
 use Prim.Native.Nat.{ℕ, zero, suc, _+_, _≤_, _<_}
 use mathlib.Core.Bool.{Bool, true, false, _&&_, _||_, false≢true}
 use mathlib.Core.Logic.{_⊎_, inl, inr, ⊎-elim, _↔_, Iff·rfl, Iff·trans}
@@ -8,11 +8,9 @@ use native.Mathlib.Numerals.{add-one}
 use native.Mathlib.Omega.{arith}
 use borrow.Author.Tests.{ltb-true, lt-ltb, leb-true, le-leb, eqb-true, eq-eqb}
 use lib.Dec.{leb, ltb, eqb}
+use Rattle.rules.specs.Game.{Least}
 use Rattle.rules.specs.Job.{every-below, some-below}
-use Rattle.rules.specs.Bytes.{before}
-use Rattle.rules.specs.Keeps.{Before}
-use Rattle.rules.specs.declared.place.Move.{Move}
-use Rattle.rules.proofs.Search.{clash, if-not-true}
+use Rattle.rules.proofs.Search.{clash, if-not-true, lowest, lowest-at}
 
 -- ---- two tests
 
@@ -80,40 +78,22 @@ some-more f k e h = rw (add-one k, e) h
 pub some-stops : (f : ℕ → Bool) (n k : ℕ) → k < n → f k ≡ true → some-below n f ≡ true
 some-stops f n k h e = some-iff f (λ i. Iff·rfl) n .1 (k, h, e)
 
+-- where some number below n passes, one does, and the search stops at the lowest
+pub some-met : (f : ℕ → Bool) (n : ℕ) → some-below n f ≡ true → (k : ℕ) × (k < n) × (f k ≡ true)
+some-met f n = some-iff f (λ k. Iff·rfl) n .0
+
+pub lowest-found : (f : ℕ → Bool) (n : ℕ) → some-below n f ≡ true → (lowest f n < n) × Least (λ i. f i ≡ true) (lowest f n)
+lowest-found f n e = let t = some-met f n e in lowest-at f n (t .0) (t .1) (t .2)
+
 -- two tests that say the same of each number
-pub every-same : (f g : ℕ → Bool) → ((k : ℕ) → f k ≡ g k) → (n : ℕ) → every-below n f ≡ every-below n g
-every-same f g same zero = refl
-every-same f g same (suc n) = ap₂ _&&_ (every-same f g same n) (same n)
+pub every-below-ext : (f g : ℕ → Bool) → ((k : ℕ) → f k ≡ g k) → (n : ℕ) → every-below n f ≡ every-below n g
+every-below-ext f g same zero = refl
+every-below-ext f g same (suc n) = ap₂ _&&_ (every-below-ext f g same n) (same n)
+
+pub some-below-ext : (f g : ℕ → Bool) (n : ℕ) → ((k : ℕ) → k < n → f k ≡ g k) → some-below n f ≡ some-below n g
+some-below-ext f g zero same = refl
+some-below-ext f g (suc n) same = ap₂ _||_ (some-below-ext f g n (λ k h. same k (omega arith))) (same n (omega arith))
 
 -- two things that hold of each number below n
 pub all-and : {A B : ℕ → Type 0} (n : ℕ) → ((k : ℕ) → k < n → A k × B k) ↔ (((k : ℕ) → k < n → A k) × ((k : ℕ) → k < n → B k))
 all-and n = (λ t. (λ k h. t k h .0, λ k h. t k h .1), λ t k h. (t .0 k h, t .1 k h))
-
--- ---- records in order
-
-pub before-iff : (m n : Move) → (before m n ≡ true) ↔ Before m n
-before-iff m n =
-    or-iff (ltb-iff (m .state) (n .state))
-    (and-iff (eqb-iff (m .state) (n .state))
-    (or-iff (ltb-iff (m .action) (n .action)) (and-iff (eqb-iff (m .action) (n .action)) (ltb-iff (m .outcome) (n .outcome)))))
-
-pub before-state : {m n : Move} → Before m n → m .state ≤ n .state
-before-state (inl h) = omega arith
-before-state (inr h) = omega arith
-
-pub before-trans : {l m n : Move} → Before l m → Before m n → Before l n
-before-trans (inl h) (inl k) = inl (omega arith)
-before-trans (inl h) (inr k) = inl (omega arith)
-before-trans (inr h) (inl k) = inl (omega arith)
-before-trans (inr (d, inl h)) (inr (e, inl k)) = inr (omega arith, inl (omega arith))
-before-trans (inr (d, inl h)) (inr (e, inr k)) = inr (omega arith, inl (omega arith))
-before-trans (inr (d, inr h)) (inr (e, inl k)) = inr (omega arith, inl (omega arith))
-before-trans (inr (d, inr h)) (inr (e, inr k)) = inr (omega arith, inr (omega arith, omega arith))
-
-pub before-differ : {m n : Move} → Before m n → m .state ≡ n .state → m .action ≡ n .action → m .outcome ≡ n .outcome → ⊥
-before-differ (inl h) s a t = omega arith
-before-differ (inr (e, inl h)) s a t = omega arith
-before-differ (inr (e, inr h)) s a t = omega arith
-
-pub before-irrefl : (m : Move) → Before m m → ⊥
-before-irrefl m h = before-differ h refl refl refl

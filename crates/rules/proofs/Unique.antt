@@ -58,5 +58,6 @@ started-unique b f f′ e e′ = e ∙ sym e′
 pub followed-unique : (b : List ℕ) (s q a t : ℕ) (f f′ : MovedFigures) → f ≡ followed b s q a t → f′ ≡ followed b s q a t → f ≡ f′
 followed-unique b s q a t f f′ e e′ = e ∙ sym e′
 
-pub advised-unique : (b p : List ℕ) (s q : ℕ) (r r′ : Advised) → advised-figures r ≡ advised b p s q → advised-figures r′ ≡ advised b p s q → r ≡ r′
+pub advised-unique : (b p : List ℕ) (s q : ℕ) (r r′ : Advised) → advised-figures r ≡ advised b p s q → advised-figures r′ ≡ advised b p s q
+    → r ≡ r′
 advised-unique b p s q r r′ e e′ = advised-known r r′ (e ∙ sym e′)

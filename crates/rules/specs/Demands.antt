@@ -20,10 +20,12 @@ module _ (G : Arena) (e : G .Place → Entry) (σ : Way G) (p : G .Place) where
     pub met-within : Forces G σ p (e p .number)
     pub all-needed : (o : ℕ → G .Place) × Obeys G σ o (begin p) × ((m : ℕ) → m < e p .number → Unmet G (last (run G σ o (begin p) m)))
     pub none-fewer : (τ : Way G) (n : ℕ) → Forces G τ p n → e p .number ≤ n
-    pub at-most : (ts : List (G .Place)) → ((t : G .Place) → Inside G t → Winning G t → Unmet G t → List·Memᴰ t ts) → e p .number ≤ length ts
+    pub at-most : (ts : List (G .Place)) → ((t : G .Place) → Inside G t → Winning G t → Unmet G t → List·Memᴰ t ts)
+        → e p .number ≤ length ts
 
   -- From a pending place: some outcomes reach a winning place by exactly the number of moves, and under no choice can fewer do so.
   pub record PendingKept : Type 0 where
     pub reached-by : (o : ℕ → G .Place) × Obeys G σ o (begin p) × Winning G (last (run G σ o (begin p) (e p .number)))
         × (made (run G σ o (begin p) (e p .number)) ≡ e p .number)
-    pub none-fewer : (τ : Way G) (o : ℕ → G .Place) (n : ℕ) → Obeys G τ o (begin p) → Winning G (last (run G τ o (begin p) n)) → e p .number ≤ n
+    pub none-fewer : (τ : Way G) (o : ℕ → G .Place) (n : ℕ) → Obeys G τ o (begin p) → Winning G (last (run G τ o (begin p) n))
+        → e p .number ≤ n

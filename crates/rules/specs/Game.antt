@@ -129,7 +129,8 @@ module _ (G : Arena) where
   Hopeful p n a =
       (t : G .Place) × Listed p a t × (((n ≡ 1) × Winning t) ⊎ ((m : ℕ) × (n ≡ suc m) × Pending t × HopesIn t m))
 
-  -- What a plan says of p: losing 0, 255, 0; accepted 2, 255, 0; other winning places and pending ones with their lowest action and their number.
+  -- What a plan says of p: losing 0, 255, 0; accepted 2, 255, 0; other winning places and pending ones with their lowest action and their
+  -- number.
   -- `right-unique` of proofs/Right.antt shows that it can say one thing only.
   pub data Right (p : G .Place) : Entry → Type 0 where
     lost : Losing p → Right p (says 0 255 0)

@@ -1,3 +1,4 @@
+-- The meaning: what the promises of every crate are said with.
 pub mod Sets
 pub mod Lowest
 pub mod Game

@@ -45,4 +45,5 @@ due actions n e = ltb (e .action) actions && (leb 1 (e .number) && ltb (e .numbe
 -- the four shapes: losing, accepted, other winning, pending
 abbrev pub shaped : ℕ → ℕ → Entry → Bool
 shaped actions n e =
-    eqb (e .value) 0 && blank e || (eqb (e .value) 2 && blank e || (eqb (e .value) 2 && due actions n e || eqb (e .value) 1 && due actions n e))
+    eqb (e .value) 0 && blank e ||
+    (eqb (e .value) 2 && blank e || (eqb (e .value) 2 && due actions n e || eqb (e .value) 1 && due actions n e))

@@ -31,10 +31,13 @@ enum-known-l : tie.Need-enum-known-l
 enum-known-l c = search needs
 
 list-start-requires : tie.Need-list-start-requires
-list-start-requires c κs = read-fit _ _ (ap reading-figures (sym (c .before .before .l .given .1)) ∙ c .before .before .before .before .read .ensures)
+list-start-requires c κs =
+    read-fit _ _ (ap reading-figures (sym (c .before .before .l .given .1)) ∙ c .before .before .before .before .read .ensures)
 
 list-places-requires : tie.Need-list-places-requires
-list-places-requires c κs = read-fit _ _ (ap reading-figures (sym (c .before .before .before .before .l .given .1)) ∙ c .before .before .before .before .before .before .read .ensures)
+list-places-requires c κs =
+    read-fit _ _ (ap reading-figures
+    (sym (c .before .before .before .before .l .given .1)) ∙ c .before .before .before .before .before .before .read .ensures)
 
 same-length : tie.Need-same-length
 same-length c = search needs

@@ -7,9 +7,9 @@ use mathlib.Core.Path.{_≡_, sym}
 use Prim.Native.Nat.{ℕ}
 use native.Mathlib.Omega.{arith}
 use Rattle.rules.specs.Bytes.{contents}
-use Rattle.rules.proofs.Kept.{contents-iff}
 use Rattle.rules.proofs.Search.{if-not-true}
 use Rattle.rules.proofs.Tests.{same-test}
+use Rattle.rules.proofs.Judged.{contents-iff}
 use Rattle.job.proofs.accept.contents_fit.Statement.{statement}
 use Rattle.job.proofs.accept.contents_fit.Tie as tie
 
@@ -77,17 +77,20 @@ word-at-requires-8 c κs = search needs
 
 add-if5 : tie.Need-add-if5
 add-if5 c =
-    let byte = c .before .before .before .before .before .before .before .before .before .before .before .before .shared-slice-known .given in
+    let byte =
+    c .before .before .before .before .before .before .before .before .before .before .before .before .shared-slice-known .given in
     omega (arith, byte 12, byte 13, byte 14, byte 15)
 
 returns-5 : tie.Need-returns-5
 returns-5 c =
-    let b = c .before .before .before .before .before .before .before .before .before .before .before .before .before .before .args .job .now in
+    let b =
+    c .before .before .before .before .before .before .before .before .before .before .before .before .before .before .args .job .now in
     refused b (λ e. omega (arith, contents-iff b .0 e))
 
 returns-6 : tie.Need-returns-6
 returns-6 c =
-    let b = c .before .before .before .before .before .before .before .before .before .before .before .before .before .before .args .job .now in
+    let b =
+    c .before .before .before .before .before .before .before .before .before .before .before .before .before .before .args .job .now in
     let n = c .before .before .before .before .before .before .before .before .before .before .before .word-at2 .result in
     same-test (λ e. contents-iff b .1 (omega (arith, eqb-true n 6 e))) (λ e. eq-eqb n 6 (omega (arith, contents-iff b .0 e)))
 

@@ -20,7 +20,8 @@ rows-of : (c : tie.After-labels-of) → let a = c .before .before .args in a .l 
 rows-of c = rw (c .labels-of .ensures) (lain (c .before .before) .rows-are)
 
 -- past the first test Goal has its length
-long : (c : tie.Else1) → let b = c .before .before .before .before .before .before .args .job .now in eqb (size b 3) (rows b + said b .goals) ≡ true
+long : (c : tie.Else1)
+    → let b = c .before .before .before .before .before .before .args .job .now in eqb (size b 3) (rows b + said b .goals) ≡ true
 long c =
     let d = c .before .before .before .before in
     let b = d .before .before .args .job .now in

@@ -3,7 +3,7 @@ use borrow.Author.Needs.{needs}
 use Prim.Native.Nat.{_≤_}
 use native.Mathlib.Omega.{arith}
 use lib.ListN.{length}
-use Rattle.rules.proofs.Kept.{contents-iff}
+use Rattle.rules.proofs.Judged.{contents-iff}
 use Rattle.job.proofs.Laying.{counts-inside, layout-is}
 use Rattle.job.proofs.accept.layout_of.Statement.{statement}
 use Rattle.job.proofs.accept.layout_of.Tie as tie

@@ -6,7 +6,7 @@ use mathlib.Core.List.{List}
 use mathlib.Core.Path.{_≡_, sym, _∙_}
 use Prim.Native.Nat.{ℕ}
 use Rattle.rules.specs.Bytes.{said, contents, counts, labels, moves}
-use Rattle.rules.proofs.Kept.{numbers, refusal-0}
+use Rattle.rules.proofs.Numbers.{numbers, refusal-0}
 use Rattle.job.specs.Layout.{Laid, in-ranges}
 use Rattle.job.proofs.Readings.{refuses, accepts}
 use Rattle.job.proofs.accept.read.Statement.{statement}
@@ -71,7 +71,10 @@ returns-4 c =
     let d = e .before .before in
     let b = now-of d in
     let h = laid d in
-    sym (refuses b 3 (numbers b .is-4 .1 (h .long, (h .in-order, (counted e, sym (c .before .labels-fit .ensures) ∙ not-true _ (c .if4 .taken))))))
+    sym (refuses b 3 (numbers b .is-4 .1 (
+      h .long,
+      (h .in-order, (counted e, sym (c .before .labels-fit .ensures) ∙ not-true _ (c .if4 .taken))),
+    )))
 
 moves-fit-requires : tie.Need-moves-fit-requires
 moves-fit-requires c κs = laid (c .before .before .before .before)
@@ -83,7 +86,10 @@ returns-5 c =
     let d = e .before .before in
     let b = now-of d in
     let h = laid d in
-    sym (refuses b 4 (numbers b .is-5 .1 (h .long, (h .in-order, (counted e, (labelled g, sym (c .before .moves-fit .ensures) ∙ not-true _ (c .if5 .taken)))))))
+    sym (refuses b 4 (numbers b .is-5 .1 (
+      h .long,
+      (h .in-order, (counted e, (labelled g, sym (c .before .moves-fit .ensures) ∙ not-true _ (c .if5 .taken)))),
+    )))
 
 goal-fits-requires : tie.Need-goal-fits-requires
 goal-fits-requires c κs = (laid (c .before .before .before .before .before .before), ranged (c .before .before .before .before))
@@ -96,7 +102,10 @@ returns-6 c =
     let d = e .before .before in
     let b = now-of d in
     let h = laid d in
-    sym (refuses b 5 (numbers b .is-6 .1 (h .long, (h .in-order, (counted e, (labelled g, (moved m, sym (c .before .goal-fits .ensures) ∙ not-true _ (c .if6 .taken))))))))
+    sym (refuses b 5 (numbers b .is-6 .1 (
+      h .long,
+      (h .in-order, (counted e, (labelled g, (moved m, sym (c .before .goal-fits .ensures) ∙ not-true _ (c .if6 .taken))))),
+    )))
 
 returns-7 : tie.Need-returns-7
 returns-7 c =
@@ -107,7 +116,10 @@ returns-7 c =
     let b = now-of d in
     let h = laid d in
     rw (h .is-layout)
-    (sym (accepts b (refusal-0 b .1 (h .long, (h .in-order, (counted e, (labelled g, (moved m, sym (c .before .goal-fits .ensures) ∙ not-false _ (c .if6 .left)))))))))
+    (sym (accepts b (refusal-0 b .1 (
+      h .long,
+      (h .in-order, (counted e, (labelled g, (moved m, sym (c .before .goal-fits .ensures) ∙ not-false _ (c .if6 .left))))),
+    ))))
 
 pub read-spec : {M : Type 1} → statement M
 read-spec =

@@ -51,7 +51,8 @@ returns : tie.Need-returns Inv-loop μ-loop
 returns c =
     let t = c .before .before .before .before in
     let s = t .before .before in
-    sym (every-stops (good (said (s .args .job .now))) (s .args .l .records) (t .loop .k) (omega arith) (sym (judged (c .before)) ∙ not-true _ (c .if1 .taken)))
+    sym (every-stops (good (said (s .args .job .now))) (s .args .l .records) (t .loop .k) (omega arith)
+    (sym (judged (c .before)) ∙ not-true _ (c .if1 .taken)))
 
 add-k : tie.Need-add-k Inv-loop μ-loop
 add-k c = omega arith

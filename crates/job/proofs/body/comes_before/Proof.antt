@@ -16,7 +16,12 @@ returns-3 c =
     let d = c .before .before in
     let l = d .before .before .before in
     let e = l .before .before .before in
-    rw (le-ltb _ _ (e .before .before .before .if1 .left), eq-eqb _ _ (e .if2 .taken), le-ltb _ _ (l .if3 .left), eq-eqb _ _ (d .if4 .taken))
+    rw (
+      le-ltb _ _ (e .before .before .before .if1 .left),
+      eq-eqb _ _ (e .if2 .taken),
+      le-ltb _ _ (l .if3 .left),
+      eq-eqb _ _ (d .if4 .taken),
+    )
 
 returns-4 : tie.Need-returns-4
 returns-4 c =

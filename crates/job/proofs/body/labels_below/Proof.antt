@@ -33,7 +33,8 @@ returns : tie.Need-returns Inv-loop μ-loop
 returns c =
     let t = c .before .before .before .before in
     let a = t .before .before .args in
-    sym (every-stops (below (a .job .now) (a .at) (2 ^ a .p)) (a .n) (t .loop .i) (omega arith) (sym (c .before .lies-below .ensures) ∙ not-true _ (c .if1 .taken)))
+    sym (every-stops (below (a .job .now) (a .at) (2 ^ a .p)) (a .n) (t .loop .i) (omega arith)
+    (sym (c .before .lies-below .ensures) ∙ not-true _ (c .if1 .taken)))
 
 add-i : tie.Need-add-i Inv-loop μ-loop
 add-i c = omega arith
@@ -44,8 +45,11 @@ loop-less c = omega arith
 loop-again : tie.Need-loop-again Inv-loop μ-loop
 loop-again c =
     let t = c .before .before .before .before in
-    let a = t .before .before .args in
-    (omega arith, every-more (below (a .job .now) (a .at) (2 ^ a .p)) (t .loop .i) (t .loop .inv .1) (sym (c .before .lies-below .ensures) ∙ not-false _ (c .if1 .left)))
+    let a = t .before .before .args in (
+      omega arith,
+      every-more (below (a .job .now) (a .at) (2 ^ a .p)) (t .loop .i) (t .loop .inv .1)
+          (sym (c .before .lies-below .ensures) ∙ not-false _ (c .if1 .left)),
+    )
 
 returns-2 : tie.Need-returns-2 Inv-loop μ-loop
 returns-2 c =

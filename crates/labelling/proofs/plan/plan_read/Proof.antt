@@ -33,7 +33,9 @@ returns-2 : tie.Need-returns-2
 returns-2 c =
     let t = c .before .before .before .before .before .before .before .before .before .before .before .before .before .pre in
     let n = places-said t in
-    rw (c .before .before .clear .ensures, n) (planned-over (t .keeps) (omega arith) (c .before .before .before .before .before .before .before .label-all .ensures) (c .before .before .before .before .if2 .taken))
+    rw (c .before .before .clear .ensures, n)
+    (planned-over (t .keeps) (omega arith) (c .before .before .before .before .before .before .before .label-all .ensures)
+    (c .before .before .before .before .if2 .taken))
 
 same-length-2 : tie.Need-same-length-2
 same-length-2 c = search needs
@@ -42,7 +44,8 @@ returns-3 : tie.Need-returns-3
 returns-3 c =
     let t = c .before .before .before .before .before .before .before .before .before .pre in
     let n = places-said t in
-    planned-done (t .keeps) (omega arith) (c .before .before .before .label-all .ensures) (c .if2 .left) (λ y. c .before .slice-known2 .given y .fits)
+    planned-done (t .keeps) (omega arith) (c .before .before .before .label-all .ensures) (c .if2 .left)
+    (λ y. c .before .slice-known2 .given y .fits)
 
 pub plan-read-spec : {M : Type 1} → statement M
 plan-read-spec =

@@ -41,11 +41,17 @@ size-requires-2 : tie.Need-size-requires-2 Inv-loop μ-loop
 size-requires-2 c κs = search needs
 
 same-length : tie.Need-same-length Inv-loop μ-loop
-same-length c = omega (arith, c .before .before .before .before .before .before .before .loop .inv .1, c .before .before .before .before .one-round .ensures .as-long)
+same-length c =
+    omega (
+      arith,
+      c .before .before .before .before .before .before .before .loop .inv .1,
+      c .before .before .before .before .one-round .ensures .as-long,
+    )
 
 returns : tie.Need-returns Inv-loop μ-loop
 returns c =
-    going-stop (c .before .before .before .before .before .before .before .before .before .before .before .before .pre .0) (c .before .before .before .before .before .before .before .loop .inv .3) (c .before .before .before .before .one-round .ensures)
+    going-stop (c .before .before .before .before .before .before .before .before .before .before .before .before .pre .0)
+    (c .before .before .before .before .before .before .before .loop .inv .3) (c .before .before .before .before .one-round .ensures)
     (c .before .before .before .before .one-round .result) refl
     (sym (c .before .size2 .ensures) ∙ c .if1 .taken ∙ c .before .before .before .before .before .before .before .loop .inv .2)
 
@@ -58,9 +64,14 @@ loop-less c = omega arith
 loop-again : tie.Need-loop-again Inv-loop μ-loop
 loop-again c = (
   omega arith,
-  omega (arith, c .before .before .before .before .before .before .before .loop .inv .1, c .before .before .before .before .one-round .ensures .as-long),
+  omega (
+    arith,
+    c .before .before .before .before .before .before .before .loop .inv .1,
+    c .before .before .before .before .one-round .ensures .as-long,
+  ),
   c .before .size2 .ensures,
-  going-more (c .before .before .before .before .before .before .before .before .before .before .before .before .pre .0) (c .before .before .before .before .before .before .before .loop .inv .3) (c .before .before .before .before .one-round .ensures)
+  going-more (c .before .before .before .before .before .before .before .before .before .before .before .before .pre .0)
+      (c .before .before .before .before .before .before .before .loop .inv .3) (c .before .before .before .before .one-round .ensures)
       (λ q. c .if1 .left (c .before .size2 .ensures ∙ q ∙ sym (c .before .before .before .before .before .before .before .loop .inv .2))),
 )
 

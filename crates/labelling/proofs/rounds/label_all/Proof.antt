@@ -17,7 +17,9 @@ same-length c = search needs
 returns : tie.Need-returns
 returns c =
     let t = c .before .before .before .before .before .before .before .before .before .before .before .pre .0 in
-    labelled-over (t .keeps) (c .before .before .before .all-rounds .ensures _ _ _ (holds-begin t (c .before .before .before .before .before .before .before .begin .ensures))) (c .if1 .taken)
+    labelled-over (t .keeps)
+    (c .before .before .before .all-rounds .ensures _ _ _
+    (holds-begin t (c .before .before .before .before .before .before .before .begin .ensures))) (c .if1 .taken)
 
 all-rounds-requires-2 : tie.Need-all-rounds-requires-2
 all-rounds-requires-2 c κs = search needs
@@ -27,9 +29,15 @@ same-length-2 c = search needs
 
 returns-2 : tie.Need-returns-2
 returns-2 c =
-    let t = c .before .before .before .before .before .before .before .before .before .before .before .before .before .before .before .before .pre .0 in
-    let w = c .before .before .before .before .before .before .before .before .all-rounds .ensures _ _ _ (holds-begin t (c .before .before .before .before .before .before .before .before .before .before .before .before .begin .ensures)) in
-    labelled-both (t .keeps) w (c .before .before .before .before .before .if1 .left) (c .before .before .all-rounds2 .ensures _ _ _ (w .holds))
+    let t =
+    c .before .before .before .before .before .before .before .before .before .before .before .before .before .before .before .before
+    .pre .0 in
+    let w =
+    c .before .before .before .before .before .before .before .before .all-rounds .ensures _ _ _
+    (holds-begin t (c .before .before .before .before .before .before .before .before .before .before .before .before .begin .ensures))
+    in
+    labelled-both (t .keeps) w (c .before .before .before .before .before .if1 .left)
+    (c .before .before .all-rounds2 .ensures _ _ _ (w .holds))
 
 pub label-all-spec : {M : Type 1} → statement M
 label-all-spec =

@@ -26,8 +26,11 @@ cast-if1 c = search needs
 returns : tie.Need-returns Inv-loop μ-loop
 returns c =
     let t = c .before .before .before in
-    let i = t .before .loop .inv in
-    (i .past, from-other (t .before .before .before .pre .0) i (t .loop-test .taken) (λ e. c .if1 .taken (rw (c .before .before .move-at .ensures) e)))
+    let i = t .before .loop .inv in (
+      i .past,
+      from-other (t .before .before .before .pre .0) i (t .loop-test .taken)
+          (λ e. c .if1 .taken (rw (c .before .before .move-at .ensures) e)),
+    )
 
 add-k : tie.Need-add-k Inv-loop μ-loop
 add-k c = search needs
@@ -39,7 +42,8 @@ loop-again : tie.Need-loop-again Inv-loop μ-loop
 loop-again c =
     let t = c .before .before .before in
     let f = t .before .before .before .pre .0 in
-    passing-more (t .before .loop .inv) (omega (arith, records-said f, t .loop-test .taken)) (rw (c .before .before .move-at .ensures) at (c .if1 .left))
+    passing-more (t .before .loop .inv) (omega (arith, records-said f, t .loop-test .taken))
+    (rw (c .before .before .move-at .ensures) at (c .if1 .left))
 
 returns-2 : tie.Need-returns-2 Inv-loop μ-loop
 returns-2 c =

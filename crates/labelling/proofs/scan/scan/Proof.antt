@@ -1,4 +1,4 @@
--- `scan` meets its contract: the marks are those of the records passed.
+-- `scan` meets its contract: the tally is that of the records passed.
 use Prim.Native.Nat.{_-_, _≤_, _<_}
 use mathlib.Core.Path.{_≡_}
 use native.Mathlib.Omega.{arith}
@@ -33,7 +33,8 @@ loop-holds c =
     (omega arith, r .in-order, scanning-none (r .begins) (c .before .before .none .ensures) (c .before .none2 .ensures) (c .none3 .ensures))
 
 -- record k is there
-there : (c : tie.In-loop Inv-loop μ-loop) → let s = c .before .before .before .before .before .before in c .before .loop .k < s .args .l .records
+there : (c : tie.In-loop Inv-loop μ-loop)
+    → let s = c .before .before .before .before .before .before in c .before .loop .k < s .args .l .records
 there c =
     let s = c .before .before .before .before .before .before in
     rw (records-said (s .pre .0)) (range-few (s .pre .1 .1) (c .loop-test .taken))
@@ -50,8 +51,8 @@ is-inside-requires c κs =
     let s = t .before .before .before .before .before .before in
     (s .pre .0, (s .pre .1 .0, rw (c .before .move-at .ensures) (outcome-below (s .pre .0) (t .before .loop .k) (there t))))
 
-mark-requires : tie.Need-mark-requires Inv-loop μ-loop
-mark-requires c κs = search needs
+add-record-requires : tie.Need-add-record-requires Inv-loop μ-loop
+add-record-requires c κs = search needs
 
 add-k : tie.Need-add-k Inv-loop μ-loop
 add-k c = search needs
@@ -68,7 +69,7 @@ loop-again c =
       omega arith,
       omega arith,
       scanning-more (c .before .before .before .move-at .ensures) (range-state (s .pre .1 .1) (i .0) (t .loop-test .taken))
-          (action-few (s .pre .0) k (there t)) (c .before .is-inside .ensures) (c .mark .ensures) (i .2),
+          (action-few (s .pre .0) k (there t)) (c .before .is-inside .ensures) (c .add-record .ensures) (i .2),
     )
 
 returns : tie.Need-returns Inv-loop μ-loop
@@ -91,7 +92,7 @@ scan-spec =
     move-at-requires
     cast-is-inside
     is-inside-requires
-    mark-requires
+    add-record-requires
     add-k
     loop-less
     loop-again

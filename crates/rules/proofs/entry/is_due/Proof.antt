@@ -9,7 +9,8 @@ use Rattle.rules.proofs.entry.is_due.Statement.{statement}
 use Rattle.rules.proofs.entry.is_due.Tie as tie
 
 -- where the ways of the first two tests meet, the third is left
-third : (c : tie.Joined1) → let a = c .before .before .args in due (a .actions) (a .places) (a .e) ≡ (c .if1 .if2 && ltb (a .e .number) (a .places))
+third : (c : tie.Joined1)
+    → let a = c .before .before .args in due (a .actions) (a .places) (a .e) ≡ (c .if1 .if2 && ltb (a .e .number) (a .places))
 third c =
     let a = c .before .before .args in
     ⊎-elim

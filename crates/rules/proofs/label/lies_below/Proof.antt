@@ -27,7 +27,8 @@ returns : tie.Need-returns Inv-loop μ-loop
 returns c =
     let t = c .before .before .before in
     let a = t .before .args in
-    sym (le-ltb (a .label) (2 ^ a .p) (set-above (a .label) (a .p) (t .loop .i) (t .loop .inv .0) (sym (c .before .has-proposition .ensures) ∙ c .if1 .taken)))
+    sym (le-ltb (a .label) (2 ^ a .p)
+    (set-above (a .label) (a .p) (t .loop .i) (t .loop .inv .0) (sym (c .before .has-proposition .ensures) ∙ c .if1 .taken)))
 
 add-i : tie.Need-add-i Inv-loop μ-loop
 add-i c = omega arith
@@ -44,7 +45,8 @@ returns-2 : tie.Need-returns-2 Inv-loop μ-loop
 returns-2 c =
     let t = c .before in
     let a = t .before .args in
-    sym (lt-ltb (a .label) (2 ^ a .p) (clear-above 8 (a .label) (a .p) (t .before .fits .label .fits) (λ k h l. t .loop .inv .1 k (omega arith) l)))
+    sym (lt-ltb (a .label) (2 ^ a .p)
+    (clear-above 8 (a .label) (a .p) (t .before .fits .label .fits) (λ k h l. t .loop .inv .1 k (omega arith) l)))
 
 pub lies-below-spec : {M : Type 1} → statement M
 lies-below-spec =

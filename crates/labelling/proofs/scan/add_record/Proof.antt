@@ -1,7 +1,7 @@
--- `mark` meets its contract.
+-- `add_record` meets its contract.
 use borrow.Author.Needs.{needs}
-use Rattle.labelling.proofs.scan.mark.Statement.{statement}
-use Rattle.labelling.proofs.scan.mark.Tie as tie
+use Rattle.labelling.proofs.scan.add_record.Statement.{statement}
+use Rattle.labelling.proofs.scan.add_record.Tie as tie
 
 with-requires : tie.Need-with-requires
 with-requires c κs = search needs
@@ -30,5 +30,5 @@ returns-2 c =
       spoilt = λ k. rw (t .if1 .left) (c .with3 .ensures k);
     }
 
-pub mark-spec : {M : Type 1} → statement M
-mark-spec = tie.close (tie.spec with-requires with-requires-2 returns with-requires-3 returns-2)
+pub add-record-spec : {M : Type 1} → statement M
+add-record-spec = tie.close (tie.spec with-requires with-requires-2 returns with-requires-3 returns-2)

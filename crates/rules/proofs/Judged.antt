@@ -1,0 +1,98 @@
+-- What each test of a job's bytes says, where it passes, in pairs nested as the tests are.
+use Prim.Native.Nat.{ℕ, zero, suc, _+_, _*_, _%_, _≤_, _<_}
+use mathlib.Core.Bool.{true}
+use mathlib.Core.List.{List}
+use mathlib.Core.Logic.{_⊎_, ⊎-elim, _↔_, Iff·rfl, Iff·trans, Iff·and}
+use mathlib.Core.Path.{_≡_, refl}
+use native.Mathlib.Omega.{arith}
+use lib.Dec.{leb, ltb}
+use lib.ListN.{length}
+use lib.Pow.{pow-pos}
+use Rattle.rules.specs.Job.{Job, every-below}
+use Rattle.rules.specs.Bytes.{offset, size, end, byte, width, rows, mark, said}
+use Rattle.rules.specs.Bytes.{contents, in-range, counts, labels, within, follows, good, moves, goal}
+use Rattle.rules.specs.Keeps.{Before}
+use Rattle.rules.specs.declared.place.Move.{Move}
+use Rattle.rules.proofs.Rows.{rows-iff}
+use Rattle.rules.proofs.Tests.{and-iff, ltb-iff, leb-iff, eqb-iff, every-iff, all-and, last-or-below}
+use Rattle.rules.proofs.Order.{before-iff, before-trans}
+
+pub contents-iff : (b : List ℕ) → (contents b ≡ true)
+    ↔ ((offset b 0 ≡ 16)
+    × ((offset b 1 ≡ end b 0)
+    × ((offset b 2 ≡ end b 1)
+    × ((offset b 3 ≡ end b 2)
+    × ((length b ≡ end b 3) × (size b 0 ≡ 6))))))
+contents-iff b =
+    and-iff (eqb-iff (offset b 0) 16)
+    (and-iff (eqb-iff (offset b 1) (end b 0))
+    (and-iff (eqb-iff (offset b 2) (end b 1))
+    (and-iff (eqb-iff (offset b 3) (end b 2))
+    (and-iff (eqb-iff (length b) (end b 3)) (eqb-iff (size b 0) 6)))))
+
+-- S, A, P and Q, and the first state f and first goal state g, each in its range
+abbrev pub InRange : ℕ → ℕ → ℕ → ℕ → ℕ → ℕ → Type 0
+InRange s a p q f g =
+    (1 ≤ s) × ((s ≤ 128) × ((1 ≤ a) × ((a ≤ 16) × ((p ≤ 6) × ((1 ≤ q) × ((q ≤ 32) × ((f < s) × (g < q))))))))
+
+pub range-iff : (s a p q f g : ℕ) → (in-range s a p q f g ≡ true) ↔ InRange s a p q f g
+range-iff s a p q f g =
+    and-iff (leb-iff 1 s)
+    (and-iff (leb-iff s 128)
+    (and-iff (leb-iff 1 a)
+    (and-iff (leb-iff a 16)
+    (and-iff (leb-iff p 6) (and-iff (leb-iff 1 q) (and-iff (leb-iff q 32) (and-iff (ltb-iff f s) (ltb-iff g q))))))))
+
+pub counts-iff : (j : Job) → (counts j ≡ true)
+    ↔ InRange (j .states) (j .actions) (j .propositions) (j .goals) (j .first) (j .first-goal)
+counts-iff j = range-iff (j .states) (j .actions) (j .propositions) (j .goals) (j .first) (j .first-goal)
+
+pub labels-iff : (b : List ℕ) → (labels b ≡ true)
+    ↔ ((size b 1 ≡ said b .states) × ((s : ℕ) → s < said b .states → said b .label s < width b))
+labels-iff b =
+    and-iff (eqb-iff (size b 1) (said b .states))
+    (every-iff (λ s. ltb (said b .label s) (width b)) (λ s. ltb-iff (said b .label s) (width b)) (said b .states))
+
+pub within-iff : (s a : ℕ) (m : Move) → (within s a m ≡ true)
+    ↔ ((m .state < s) × ((m .action < a) × (m .outcome < s)))
+within-iff s a m = and-iff (ltb-iff (m .state) s) (and-iff (ltb-iff (m .action) a) (ltb-iff (m .outcome) s))
+
+-- records that each come after the one before come after every earlier one
+pub ascending-iff : (f : ℕ → Move) (n : ℕ)
+    → ((k : ℕ) → k < n → follows f k ≡ true) ↔ ((k m : ℕ) → k < m → m < n → Before (f k) (f m))
+ascending-iff f n = (up, down)
+  where
+    up : ((k : ℕ) → k < n → follows f k ≡ true) → (k m : ℕ) → k < m → m < n → Before (f k) (f m)
+    up t k zero h l = absurd (omega arith)
+    up t k (suc m) h l =
+        let next : Before (f m) (f (suc m)) = before-iff (f m) (f (suc m)) .0 (t (suc m) l) in
+        ⊎-elim (λ (e : k ≡ m). rw e next) (λ (g : k < m). before-trans (up t k m g (omega arith)) next) (last-or-below h)
+
+    down : ((k m : ℕ) → k < m → m < n → Before (f k) (f m)) → (k : ℕ) → k < n → follows f k ≡ true
+    down t zero h = refl
+    down t (suc k) h = before-iff (f k) (f (suc k)) .1 (t k (suc k) (omega arith) h)
+
+pub records-iff : (j : Job) → (every-below (j .records) (good j) ≡ true)
+    ↔ (((k : ℕ) → k < j .records → (j .move k .state < j .states) × ((j .move k .action < j .actions) × (j .move k .outcome < j .states)))
+    × ((k m : ℕ) → k < m → m < j .records → Before (j .move k) (j .move m)))
+records-iff j =
+    Iff·trans (every-iff (good j) (λ k. and-iff (within-iff (j .states) (j .actions) (j .move k)) Iff·rfl) (j .records))
+    (Iff·trans (all-and (j .records)) (Iff·and Iff·rfl (ascending-iff (j .move) (j .records))))
+
+pub moves-iff : (b : List ℕ) → let j = said b in (moves b ≡ true)
+    ↔ ((size b 2 ≡ 3 * j .records) × ((j .records ≤ 4096)
+    × (((k : ℕ) → k < j .records → (j .move k .state < j .states) × ((j .move k .action < j .actions) × (j .move k .outcome < j .states)))
+    × ((k m : ℕ) → k < m → m < j .records → Before (j .move k) (j .move m)))))
+moves-iff b =
+    let tests = and-iff (eqb-iff (size b 2 % 3) 0) (and-iff (leb-iff (size b 2) 12288) (records-iff (said b))) in
+    (λ e. let t = tests .0 e in (omega arith, (omega arith, t .1 .1)), λ t. tests .1 (omega arith, (omega arith, t .1 .1)))
+
+pub goal-iff : (b : List ℕ) → let j = said b in (goal b ≡ true)
+    ↔ ((size b 3 ≡ j .goals * width b + j .goals) × (((q l : ℕ) → q < j .goals → l < width b → j .next q l < j .goals)
+    × ((q : ℕ) → q < j .goals → mark b q ≤ 1)))
+goal-iff b =
+    let n = said b .goals in
+    let flat = every-iff (λ i. ltb (byte b 3 i) n) (λ i. ltb-iff (byte b 3 i) n) (rows b) in
+    let grid = rows-iff (λ i. byte b 3 i < n) n (width b) (pow-pos (byte b 0 2)) in
+    and-iff (eqb-iff (size b 3) (rows b + n))
+    (and-iff (Iff·trans flat grid) (every-iff (λ q. leb (mark b q) 1) (λ q. leb-iff (mark b q) 1) n))
