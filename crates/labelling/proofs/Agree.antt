@@ -6,8 +6,8 @@ use native.Mathlib.Decide.{le-ind}
 use Rattle.rules.specs.Game.{Arena, Inside, Lawful, says}
 use Rattle.rules.specs.declared.entry.Entry.{Entry}
 use Rattle.rules.specs.Job.{some-below}
-use Rattle.rules.proofs.Search.{lowest, lowest-ext, stays}
 use Rattle.rules.proofs.Lists.{some-ext, sure-ext}
+use Rattle.rules.proofs.Search.{lowest, lowest-ext, stays}
 use Rattle.rules.proofs.Tests.{some-below-ext}
 use Rattle.labelling.specs.declared.scan.Phase.{Phase}
 use Rattle.labelling.specs.Scan.{wanted, phase-value}

@@ -18,11 +18,11 @@ use Rattle.rules.specs.Plan.{entry, entry-byte, room, Wrote}
 use Rattle.rules.specs.declared.place.Place.{Place}
 use Rattle.rules.specs.declared.entry.Entry.{Entry}
 use Rattle.rules.proofs.Arenas.{inside-iff, arena-lawful}
+use Rattle.rules.proofs.Sizes.{count-sub, count-same, count-more}
+use Rattle.rules.proofs.Search.{lowest}
 use Rattle.rules.proofs.Bits.{below-or, same-or}
 use Rattle.rules.proofs.Entries.{read-back}
-use Rattle.rules.proofs.Members.{count-sub, count-same, count-more}
 use Rattle.rules.proofs.Rows.{row-of}
-use Rattle.rules.proofs.Search.{lowest}
 use Rattle.rules.proofs.Tests.{and-iff, ltb-iff}
 use Rattle.job.specs.Layout.{Fit, layout}
 use Rattle.job.specs.declared.layout.Layout.{Layout}

@@ -6,5 +6,7 @@ pub mod Holding
 pub mod Settling
 pub mod Planning
 pub mod Demands
+pub mod Ranging
 pub mod Scanning
+pub mod Choosing
 pub mod Rounding

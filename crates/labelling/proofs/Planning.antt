@@ -24,7 +24,7 @@ module _ {b before plan : List ℕ} (k : Keeps b) (fits : room (said b) ≤ leng
       let n = l .as-long in
       ext-getD 0 (drop (room (said b)) plan) (drop (room (said b)) before)
       (simp length-drop (omega arith))
-      (λ i h. rw (getD-drop, getD-drop) (l .rest (room (said b) + i) (omega arith)))
+      (λ i h. rw (getD-drop (room (said b)) plan i, getD-drop (room (said b)) before i) (l .rest (room (said b) + i) (omega arith)))
 
   -- the plan is the bytes before those
   abbrev part : List ℕ

@@ -25,7 +25,7 @@ use Rattle.labelling.specs.Scan.{in-set, Scanned, LowestPassing, tallied
 use Rattle.labelling.specs.Pass.{Pass}
 use Rattle.labelling.specs.Round.{Ready, adds, Passed, met-at, Begun}
 use Rattle.labelling.proofs.Passes.{pass-skip, pass-put, pass-write}
-use Rattle.labelling.proofs.Scanning.{LowestCounted, chosen, choice-counted}
+use Rattle.labelling.proofs.Choosing.{LowestCounted, chosen, choice-counted}
 
 -- ---- a round's functions, one after the other
 

@@ -5,8 +5,8 @@ use mathlib.Core.Path.{_≡_, refl, sym, ap, _∙_, subst, subst₂, fun-ext}
 use Rattle.rules.specs.Game.{Arena, Inside, Lawful, Least, Pending, WinsIn, HopesIn, Right, met, says}
 use Rattle.rules.specs.declared.entry.Entry.{Entry}
 use Rattle.rules.specs.Job.{some-below}
-use Rattle.rules.proofs.Search.{clash, if-not-true, lowest-ext, has-lowest, least-map, not-yet, new}
 use Rattle.rules.proofs.Lists.{sure, some}
+use Rattle.rules.proofs.Search.{clash, if-not-true, lowest-ext, has-lowest, least-map, not-yet, new}
 use Rattle.rules.proofs.Rounds.{size, win, hope, won, hoped, win-accepted, win-up, win-settled, win-closed, hope-closed}
 use Rattle.rules.proofs.Values.{wins-iff}
 use Rattle.rules.proofs.Hopes.{hopes-iff}

@@ -5,8 +5,8 @@ use mathlib.Core.List.{List, List·Memᴰ}
 use mathlib.Core.Path.{_≡_, refl}
 use native.Mathlib.Omega.{arith}
 use lib.ListN.{length}
-use Rattle.rules.proofs.Search.{if-not-true, not-yet}
 use Rattle.rules.proofs.Lists.{how-many, how-many-length}
+use Rattle.rules.proofs.Search.{if-not-true, not-yet}
 use Rattle.rules.proofs.Climbs.{climb}
 use Rattle.rules.specs.Game.{Arena, Inside, Unmet, Lawful, Winning, WinsIn, HopesIn}
 use Rattle.rules.proofs.Rounds.{size, won, win, win-accepted, win-up, win-below, win-ladder, hope-below}

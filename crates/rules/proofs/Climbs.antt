@@ -8,8 +8,8 @@ use native.Mathlib.Nat.{le-of-suc-le-suc, lt-of-not-le, eq-or-lt-of-le}
 use native.Mathlib.Omega.{arith}
 use lib.ListN.{length}
 use Rattle.rules.specs.Game.{Least}
-use Rattle.rules.proofs.Search.{clash, if-not-false, has-lowest, stays, not-yet}
 use Rattle.rules.proofs.Lists.{how-many, how-many-length, how-many-more}
+use Rattle.rules.proofs.Search.{clash, if-not-false, has-lowest, stays, not-yet}
 
 -- A chain of wider and wider tests, each of which passes a member of xs that the one before did not, has no more steps than xs has members.
 pub climb : {A : Type 0} (g : ℕ → A → Bool) → ((k : ℕ) (t : A) → g k t ≡ true → g (suc k) t ≡ true) → (xs : List A) (n : ℕ) →

@@ -9,8 +9,8 @@ use native.Mathlib.Nat.{le-of-suc-le-suc}
 use native.Mathlib.Omega.{arith}
 use borrow.Author.Tests.{eq-eqb, ne-eqb}
 use lib.Dec.{eqb}
-use Rattle.rules.proofs.Search.{clash, if-not-true, least-unique, not-yet}
 use Rattle.rules.proofs.Lists.{some-found, sure-at}
+use Rattle.rules.proofs.Search.{clash, if-not-true, least-unique, not-yet}
 use Rattle.rules.specs.declared.entry.Entry.{Entry}
 use Rattle.rules.specs.Game.{Arena, Play, begin, last, made, Choice, stop, act, Inside, Listed, Open, Accepted, Unmet, Lawful, Way}
 use Rattle.rules.specs.Game.{run, Obeys, Follows, Forces, Winning, Pending, Losing, WinsIn, HopesIn, Sure, Hopeful, Right, lost, met}

@@ -5,8 +5,8 @@ use mathlib.Core.Logic.{_⊎_, inl, inr, ⊎-elim, _↔_}
 use mathlib.Core.Path.{_≡_, ap}
 use native.Mathlib.Nat.{le-trans}
 use native.Mathlib.Omega.{arith}
-use Rattle.rules.proofs.Search.{either, clash, if-not-true, least-unique, lowest, lowest-is, has-lowest}
 use Rattle.rules.proofs.Lists.{some, some-found, some-true}
+use Rattle.rules.proofs.Search.{either, clash, if-not-true, least-unique, lowest, lowest-is, has-lowest}
 use Rattle.rules.specs.Game.{Arena, Play, begin, then, last, made, act, Inside, Listed, Open, Accepted, Unmet, Lawful, Way, advance}
 use Rattle.rules.specs.Game.{run, Obeys, Winning, Reaches, Possible, Pending, Losing, WinsIn, HopesIn, Least}
 use Rattle.rules.proofs.Rounds.{size, won, hoped, win, hope, win-accepted, win-step, hope-up, hope-mono, hope-step, hope-into}

@@ -24,4 +24,5 @@ pub mod Marked
 pub mod Bits
 pub mod LowestBit
 pub mod Members
+pub mod Sizes
 pub mod Entries

@@ -1,7 +1,7 @@
 -- Tests run over the members of a list: whether every member passes, whether one does, and how many do.
 use Prim.Native.Nat.{ℕ, zero, suc, _≤_, _<_, zero-le, suc-le-suc}
-use mathlib.Core.Bool.{Bool, true, false, false≢true, true≢false}
-use mathlib.Core.List.{List, [], _∷_, List·Memᴰ, List·Memᴰ·head, List·Memᴰ·tail, List·Memᴰ·not-nil, List·Memᴰ·cases-cons}
+use mathlib.Core.Bool.{Bool, true, false, not, _&&_, _||_, false≢true, true≢false}
+use mathlib.Core.List.{List, [], _∷_, _++_, map, List·Memᴰ, List·Memᴰ·head, List·Memᴰ·tail, List·Memᴰ·not-nil, List·Memᴰ·cases-cons}
 use mathlib.Core.Logic.{_⊎_, inl, inr, ⊎-elim}
 use mathlib.Core.Path.{_≡_, refl, sym, _∙_, ap, ap₂}
 use native.Mathlib.Omega.{arith}
@@ -102,6 +102,30 @@ module _ {A : Type 0} where
     sure-ext [] h = refl
     sure-ext (x ∷ xs) h = every-ext (x ∷ xs) h
 
+  pub some-append : (f : A → Bool) (xs ys : List A) → some f (xs ++ ys) ≡ (some f xs || some f ys)
+  unfolding some
+  some-append f [] ys = refl
+  some-append f (x ∷ xs) ys = go (f x) refl (some-append f xs ys)
+    where
+      go : (b : Bool) → f x ≡ b → some f (xs ++ ys) ≡ (some f xs || some f ys) → some f (x ∷ (xs ++ ys)) ≡ (some f (x ∷ xs) || some f ys)
+      go true z r = rw (z, some)
+      go false z r = rw (z, some) r
+
+  -- all pass where none fails
+  every-none : (f : A → Bool) (xs : List A) → every f xs ≡ not (some (λ t. not (f t)) xs)
+  unfolding every some
+  every-none f [] = refl
+  every-none f (x ∷ xs) = go (f x) refl (every-none f xs)
+    where
+      go : (b : Bool) → f x ≡ b → every f xs ≡ not (some (λ t. not (f t)) xs) → every f (x ∷ xs) ≡ not (some (λ t. not (f t)) (x ∷ xs))
+      go true z r = rw (z, every, some) r
+      go false z r = rw (z, every, some)
+
+  pub sure-some : (f : A → Bool) (xs : List A) → sure f xs ≡ (some (λ t. true) xs && not (some (λ t. not (f t)) xs))
+  unfolding sure some
+  sure-some f [] = refl
+  sure-some f (x ∷ xs) = every-none f (x ∷ xs)
+
   pub how-many-length : (f : A → Bool) (xs : List A) → how-many f xs ≤ length xs
   unfolding how-many
   how-many-length f [] = zero-le
@@ -137,3 +161,8 @@ module _ {A : Type 0} where
         go false y true z w h r = rw (y, z, how-many) (suc-le-suc w)
         go false y false z w (inl e) r = absurd (clash (sym (ap g e) ∙ q) z)
         go false y false z w (inr k) r = rw (y, z, how-many) (r k)
+
+pub some-map : {A B : Type 0} (g : B → Bool) (h : A → B) (xs : List A) → some g (map h xs) ≡ some (λ t. g (h t)) xs
+unfolding some
+some-map g h [] = refl
+some-map g h (x ∷ xs) = ap (λ (b : Bool). elim (g (h x)) [ true ↦ true | false ↦ b ]) (some-map g h xs)

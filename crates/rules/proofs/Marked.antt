@@ -10,8 +10,8 @@ use Rattle.rules.specs.Keeps.{Keeps}
 use Rattle.rules.specs.Calls.{is-place}
 use Rattle.rules.specs.Examples.{plate, early, Case, marked}
 use Rattle.rules.specs.declared.entry.Entry.{Entry}
-use Rattle.rules.proofs.Search.{lowest}
 use Rattle.rules.proofs.Lists.{every, every-at, some, sure}
+use Rattle.rules.proofs.Search.{lowest}
 use Rattle.rules.proofs.Tests.{and-iff, eqb-iff, ltb-iff}
 use Rattle.rules.proofs.Kept.{kept}
 use Rattle.rules.proofs.Rounds.{win, hope}

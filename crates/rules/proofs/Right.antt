@@ -5,8 +5,8 @@ use mathlib.Core.Logic.{_⊎_, inl, inr, _↔_}
 use mathlib.Core.Path.{_≡_, refl, sym, subst}
 use native.Mathlib.Nat.{le-of-suc-le-suc}
 use native.Mathlib.Omega.{arith}
-use Rattle.rules.proofs.Search.{clash, if-not-true, not-yet, least-unique, least-map, has-lowest, lowest, lowest-passes}
 use Rattle.rules.proofs.Lists.{some, sure, some-found, some-true, sure-at, sure-true}
+use Rattle.rules.proofs.Search.{clash, if-not-true, not-yet, least-unique, least-map, has-lowest, lowest, lowest-passes}
 use Rattle.rules.proofs.Tests.{lowest-found, some-stops}
 use Rattle.rules.specs.declared.entry.Entry.{Entry}
 use Rattle.rules.specs.Game.{Arena, Inside, Unmet, Lawful, Winning, Pending, HopesIn, Sure, Hopeful, Right, lost, met, wins, hopes}

@@ -7,8 +7,8 @@ use native.Mathlib.Omega.{arith}
 use native.Mathlib.Nat.{le-of-suc-le-suc}
 use lib.ListN.{length}
 use Rattle.rules.specs.Job.{some-below}
-use Rattle.rules.proofs.Search.{clash, stays, new, not-yet, if-not-true}
 use Rattle.rules.proofs.Lists.{some, sure, some-found, some-true, sure-at, sure-true, sure-fails}
+use Rattle.rules.proofs.Search.{clash, stays, new, not-yet, if-not-true}
 use Rattle.rules.proofs.Climbs.{first-below, settled, closed, ladder}
 use Rattle.rules.proofs.Tests.{some-stops, some-met}
 use Rattle.rules.specs.Game.{Arena, Inside, Listed, Open, Accepted, Lawful, Least}

@@ -6,8 +6,8 @@ use mathlib.Core.Path.{_≡_, refl, ap}
 use native.Mathlib.Nat.{le-of-suc-le-suc}
 use native.Mathlib.Omega.{arith}
 use Rattle.rules.specs.Job.{some-below}
-use Rattle.rules.proofs.Search.{either, clash, if-not-false, if-not-true, least-map, lowest, lowest-is, has-lowest}
 use Rattle.rules.proofs.Lists.{sure, sure-at, sure-true, sure-fails}
+use Rattle.rules.proofs.Search.{either, clash, if-not-false, if-not-true, least-map, lowest, lowest-is, has-lowest}
 use Rattle.rules.proofs.Tests.{some-stops, lowest-found}
 use Rattle.rules.specs.Game.{Arena, Play, begin, last, Choice, stop, act, Inside, Listed, Open, Accepted, Unmet, Lawful, Way, advance}
 use Rattle.rules.specs.Game.{run, Obeys, Forces, Winning, WinsIn, Least}

@@ -8,7 +8,7 @@ use Rattle.rules.specs.Bytes.{said}
 use Rattle.labelling.specs.Scan.{From}
 use Rattle.labelling.specs.Round.{Passed}
 use Rattle.labelling.proofs.Passes.{pass-empty, pass-join}
-use Rattle.labelling.proofs.Scanning.{from-start}
+use Rattle.labelling.proofs.Ranging.{from-start}
 use Rattle.labelling.proofs.Rounding.{next-row}
 use Rattle.labelling.proofs.round.one_round.Statement.{statement}
 use Rattle.labelling.proofs.round.one_round.Tie as tie

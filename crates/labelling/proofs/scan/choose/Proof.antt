@@ -1,7 +1,7 @@
 -- `choose` meets its contract.
 use borrow.Author.Needs.{needs}
 use mathlib.Core.Path.{refl}
-use Rattle.labelling.proofs.Scanning.{lowest-of}
+use Rattle.labelling.proofs.Choosing.{lowest-of}
 use Rattle.labelling.proofs.scan.choose.Statement.{statement}
 use Rattle.labelling.proofs.scan.choose.Tie as tie
 

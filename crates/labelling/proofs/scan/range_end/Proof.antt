@@ -4,7 +4,7 @@ use native.Mathlib.Omega.{arith}
 use borrow.Author.Needs.{needs}
 use Rattle.rules.specs.Bytes.{said}
 use Rattle.job.proofs.Asking.{records-said}
-use Rattle.labelling.proofs.Scanning.{Passing, passing-none, passing-more, from-other, from-end}
+use Rattle.labelling.proofs.Ranging.{Passing, passing-none, passing-more, from-other, from-end}
 use Rattle.labelling.proofs.scan.range_end.Statement.{statement}
 use Rattle.labelling.proofs.scan.range_end.Tie as tie
 

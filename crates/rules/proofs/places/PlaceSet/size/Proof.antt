@@ -8,7 +8,7 @@ use lib.ListN.{getD}
 use mir.Syntax.{w64}
 use mir.Val.{Fits}
 use Rattle.rules.specs.Sets.{member, count}
-use Rattle.rules.proofs.Members.{count-none, count-word, count-le}
+use Rattle.rules.proofs.Sizes.{count-none, count-word, count-le}
 use Rattle.rules.proofs.places.PlaceSet.size.Statement.{statement}
 use Rattle.rules.proofs.places.PlaceSet.size.Tie as tie
 
