@@ -70,9 +70,6 @@ module _ {b : List ℕ} {l : Layout} (f : Fit b l) where
   pub few-records : l .records ≤ 4096
   few-records = rw records-said (f .keeps .few-records)
 
-  pub some-places : 1 ≤ l .states * l .goals
-  some-places = mul-le-mul some-states some-goals
-
   pub few-places : l .states * l .goals ≤ 4096
   few-places = mul-le-mul few-states few-goals
 

@@ -77,13 +77,6 @@ module _ (G : Arena) (L : Lawful G) (p : G .Place) where
   hopes-says n (wins u v s) h k = absurd (h .0 (wins-winning G L _ p v))
   hopes-says n (hopes {a} g j s) h k = (refl, subst (λ m. Hopeful G p m a) (least-unique j k) (s .0))
 
-  -- with at most 255 actions, 255 names none of them
-  pub says-none : G .actions ≤ 255 → {x : Entry} → Right G p x → x .action ≡ 255 → Accepted G p ⊎ Losing G p
-  says-none f (lost l) q = inr l
-  says-none f (met y) q = inl y
-  says-none f (wins u w s) q = let o = s .0 .0 in let c = L .counted p (o .0) _ (o .1) in absurd (omega arith)
-  says-none f (hopes h k s) q = let t = s .0 in let c = L .counted p (t .0) _ (t .1) in absurd (omega arith)
-
   pub losing-says : {x : Entry} → Right G p x → Losing G p → x .value ≡ 0
   losing-says (lost l) k = refl
   losing-says (met y) k = absurd (k .0 (accepted-winning G L p y))

@@ -2,7 +2,7 @@
 use Prim.Native.Nat.{_≤_}
 use mathlib.Core.Bool.{true}
 use mathlib.Core.Logic.{inl, inr, _↔_}
-use mathlib.Core.Path.{_≡_, refl}
+use mathlib.Core.Path.{_≡_}
 use native.Mathlib.Omega.{arith}
 use Rattle.rules.specs.Bytes.{before}
 use Rattle.rules.specs.Keeps.{Before}
@@ -32,6 +32,3 @@ pub before-differ : {m n : Move} → Before m n → m .state ≡ n .state → m 
 before-differ (inl h) s a t = omega arith
 before-differ (inr (e, inl h)) s a t = omega arith
 before-differ (inr (e, inr h)) s a t = omega arith
-
-pub before-irrefl : (m : Move) → Before m m → ⊥
-before-irrefl m h = before-differ h refl refl refl

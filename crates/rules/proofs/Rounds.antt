@@ -1,7 +1,7 @@
 -- The rounds: where the goal can be forced within n moves, and from where a set of places can be come to within n moves.
 use Prim.Native.Nat.{ℕ, zero, suc, _≤_, _<_, zero-le}
 use mathlib.Core.Bool.{Bool, true, false}
-use mathlib.Core.Logic.{_⊎_, inl, inr, ⊎-elim, _↔_}
+use mathlib.Core.Logic.{_⊎_, inl, inr, ⊎-elim}
 use mathlib.Core.Path.{_≡_, refl}
 use native.Mathlib.Omega.{arith}
 use native.Mathlib.Nat.{le-of-suc-le-suc}
@@ -108,11 +108,6 @@ module _ (G : Arena) where
         → win G m p ≡ true → win G n p ≡ true
     win-closed n h m p i e = closed (win G) win-up (G .all) win-down-inside n h m p i e
 
-    -- what a round adds
-    pub win-new : (n : ℕ) (p : G .Place) → Least (λ k. win G k p ≡ true) (suc n) ↔ ((win G n p ≡ false) × Into n p)
-    win-new n p =
-        (λ l. (not-yet (λ k. win G k p) n l, win-into n p l), λ r. new (λ k. win G k p) (λ k. win-up k p) n (r .0) (into-win n p (r .1)))
-
   module _ (S : G .Place → Bool) where
     pub hope-up : (n : ℕ) (p : G .Place) → hope G S n p ≡ true → hope G S (suc n) p ≡ true
     unfolding hope
@@ -164,11 +159,3 @@ module _ (G : Arena) where
       pub hope-closed : (n : ℕ) → ((t : G .Place) → Inside G t → hope G S (suc n) t ≡ true → hope G S n t ≡ true) → (m : ℕ) (p : G .Place)
           → Inside G p → hope G S m p ≡ true → hope G S n p ≡ true
       hope-closed n h m p i e = closed (hope G S) hope-up (G .all) hope-down-inside n h m p i e
-
-      pub hope-new : (n : ℕ) (p : G .Place)
-          → Least (λ k. hope G S k p ≡ true) (suc n)
-          ↔ ((hope G S n p ≡ false) × ((a : ℕ) × (t : G .Place) × Listed G p a t × (hope G S n t ≡ true)))
-      hope-new n p = (
-        λ l. (not-yet (λ k. hope G S k p) n l, hope-into n p l),
-        λ r. new (λ k. hope G S k p) (λ k. hope-up k p) n (r .0) (let i = r .1 in into-hope n p (i .1) (i .0) (i .2) (i .3)),
-      )
