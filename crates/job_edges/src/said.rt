@@ -7,7 +7,7 @@ ghost use Prim.Native.Nat.{_<_};
 // A number with no digits. No job is so long, so a line that is at fault makes its job this long.
 const NONE: u16 = 65535;
 
-// A word is a sign with a number after it, and one before it, which is 0 where it is left out. A number alone has a space for its sign.
+// A word is a sign with a number after it, and one before it, which is 0 where it is left out. Before its sign a word has a space for one.
 pub struct Said {
     pub sign: u8,
     pub before: u16,
@@ -67,7 +67,13 @@ impl Said {
         let sign = self.sign;
         let n = self.number;
         match sign {
-            b' ' | b'*' | b'P' | b'B' => n,
+            b'*' | b'P' | b'B' | b'Z' => n,
+            b' ' => {
+                if n == 0 {
+                    return 0;
+                }
+                NONE
+            }
             b'=' => {
                 if n < 256 {
                     return 1;
