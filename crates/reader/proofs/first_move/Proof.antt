@@ -1,5 +1,7 @@
--- `first_move` meets its contract: a walk of its MIR, by hand. The reader that `open_moves` returns is held in a local and lent to `next_move`. All that the proof knows of the two is that they meet their contracts.
--- The local is lent for a lifetime that is made for the call, a ∷ κ, within the job's κ, since the reader's lifetime must outlive the loan. Once it is over the local comes back, and its frame is released.
+-- `first_move` meets its contract: a walk of its MIR, by hand. The reader that `open_moves` returns is held in a local and lent to
+-- `next_move`. All that the proof knows of the two is that they meet their contracts.
+-- The local is lent for a lifetime that is made for the call, a ∷ κ, within the job's κ, since the reader's lifetime must outlive the loan.
+-- Once it is over the local comes back, and its frame is released.
 use mathlib.Core.Path.{_≡_, refl, ap, _∙_}
 use Prim.Native.Nat.{ℕ}
 use mathlib.Core.List.{List, [], _∷_}
@@ -18,8 +20,10 @@ use contract.BorrowLft.{meet-⊑-right}
 use contract.Lifetimes.{Lfts}
 use contract.Monad.{Fun, fact}
 use contract.Running.{givenOf, tables, tablesOf}
-use types.Kit.{Given, ‵, raw, _⊛_, ⋆, some, later, _$_, _∵_, !, qed, by, move, keep, use1, use2, use3, split, join, pick, fsplit, fjoin, fpick, fpack, suffices, frame, await, done}
-use types.Run.{look, init, forget, stop, from, load, addr, of-opd, and-then, no-more, assigns, land, returns, enter, alloc1, alloc0, params1, pass1, pass0, free1, free0}
+use types.Kit.{Given, ‵, raw, _⊛_, ⋆, some, later, _$_, _∵_, !, qed, by, move, keep, use1, use2, use3, split, join, pick, fsplit, fjoin}
+use types.Kit.{fpick, fpack, suffices, frame, await, done}
+use types.Run.{look, init, forget, stop, from, load, addr, of-opd, and-then, no-more, assigns, land, returns, enter, alloc1, alloc0}
+use types.Run.{params1, pass1, pass0, free1, free0}
 use types.SemTy.{Body}
 use types.Tokens.{lft-new}
 use borrow.Within.Token.{Rest, within-token, within-end}
@@ -169,14 +173,16 @@ module _ {M : Type 1} (𝓤 : URA M) (H : Heap 𝓤) (A : Atoms 𝓤) (W : Given
         move ! (1 ∷ []) $ split ! $ use1 W (‵ (flft κ ◐) ⊛ ‵ (flft κ ◑)) (W .lfts .lft-split κ q) $ split ! $
         lft-new ! tt (λ a. use2 W (‵ (flft (a ∷ κ) ◐) ⊛ raw (Rest 𝓤 H A W a ◐)) (within-token 𝓤 H A W a κ ◐) $ split ! $ move ! (4 ∷ []) $
         use1 W (later (some (λ (δ : GName). ‵ (MutRef (named 0) (a ∷ κ) R .own (lent l₂ δ r) (vptr l₂ 0 ∷ [])) ⊛ ‵ (flent (a ∷ κ) (Body (mem R) l₂ 0 δ))))) (lends-ref 𝓤 H A W R (named 0) (a ∷ κ) r l₂ 0) $ await ! tt $ pick ! (λ δ. split ! $
-        -- [the reference; the lender's part; the loan's token; the way back to a's; the other half of the job's; emp; what s owns; _4; …; _3; …; …; _1; …; room for _0; …]
+        -- [the reference; the lender's part; the loan's token; the way back to a's; the other half of the job's; emp; what s owns; _4; …;
+        -- _3; …; …; _1; …; room for _0; …]
         move ! (2 ∷ 4 ∷ 0 ∷ []) $ use3 W (raw (NextMove 𝓤 H A at-mem run .pre (to-next a l₂ δ r))) (goes-next a l₂ δ r) $
         calls-at ! fm (NextMove 𝓤 H A at-mem run) known-next (to-next a l₂ δ r) (and-then ! (load ! (from ! (stop !)) (look ! 5 refl)) (no-more !)) (λ u′.
         use1 W (later (some (λ (t : Handed). ((‵ (flft (a ∷ κ) ◐) ⊛ ‵ (flft κ ◑) ⊛ ‵ ftrue) ⊛ ‵ (S.the-row .own t (u′ ∷ []))) ⊛ raw (ensured 𝓤 H A next-move.ended (next-move.clauses 𝓤 H A at-mem run) (a ∷ κ, (κ, tt)) (lent l₂ δ r, tt) tt t)))) (id⊢ 𝓤 _) $ await ! tt $ pick ! (λ t.
         -- what `next_move` ensures, at the reader's last value
         split ! $ move ! (1 ∷ []) $ use1 W (some (λ (ws : MoveReader × Unit {0}). ‵ (lasts next-move.ended (a ∷ κ, (κ, tt)) (lent l₂ δ r, tt) ws) ⊛ raw (fact 𝓤 ((t ≡ hands r) × (ws .0 ≡ moved r))))) (id⊢ 𝓤 _) $ pick ! (λ ws.
         split ! $ move ! (1 ∷ []) $ heard ! ((t ≡ hands r) × (ws .0 ≡ moved r)) (λ et. fsplit ! $ move ! (2 ∷ []) $ split ! $ move ! (1 ∷ []) $
-        -- [the result; the tokens; the last value; emp; the lender's part; the way back to a's; emp; what s owns; _4; …; _3; …; …; _1; …; room for _0; …]
+        -- [the result; the tokens; the last value; emp; the lender's part; the way back to a's; emp; what s owns; _4; …; _3; …; …; _1; …;
+        -- room for _0; …]
         peeks ! S.the-row (Is S.the-row) (shows 𝓤 H A S.the-row) t (u′ ∷ []) (λ is′.
         land ! (from ! (stop !)) (init ! 15 refl (EL.lawful S.the-type S′.the-laws 𝓤 H A W tt .typed t _ is′ .0)) $
         -- the lifetime is ended, and the local comes back

@@ -1,5 +1,8 @@
--- `next_move` meets its contract: a walk of its MIR, by hand. The borrow is opened, which gives the struct's cell and what the struct owns; the slice and the number go to `next_at` and to `nth_move`; the number that `next_at` returned is stored in the cell; and the borrow is closed at the moved reader.
--- All that the proof knows of the two callees is that they meet their contracts. The struct is Copy, so each call has a copy of what the slice owns.
+-- `next_move` meets its contract: a walk of its MIR, by hand. The borrow is opened, which gives the struct's cell and what the struct owns;
+-- the slice and the number go to `next_at` and to `nth_move`; the number that `next_at` returned is stored in the cell; and the borrow is
+-- closed at the moved reader.
+-- All that the proof knows of the two callees is that they meet their contracts. The struct is Copy, so each call has a copy of what the
+-- slice owns.
 use mathlib.Core.Path.{_≡_, refl, ap}
 use Prim.Native.Nat.{ℕ, _<_, _^_}
 use mathlib.Core.List.{List, [], _∷_}
@@ -17,9 +20,11 @@ use ghost.Atoms.{Atoms, sem}
 use contract.Lifetimes.{AllOutlive}
 use contract.Monad.{Fun, fact}
 use contract.Running.{givenOf, tables, tablesOf}
-use types.Kit.{Given, ‵, raw, _⊛_, given, ⋆, some, later, _$_, _∵_, !, qed, by, move, keep, drop, use1, use2, split, join, learn, pick, rewrite, fsplit, fsplit3, fjoin, fjoin3, feqI, suffices, frame, await, done}
+use types.Kit.{Given, ‵, raw, _⊛_, given, ⋆, some, later, _$_, _∵_, !, qed, by, move, keep, drop, use1, use2, split, join, learn, pick}
+use types.Kit.{rewrite, fsplit, fsplit3, fjoin, fjoin3, feqI, suffices, frame, await, done}
 use types.Part.{whole, sub, look-in, store-in}
-use types.Run.{look, init, forget, stop, hop, fld, from, load, of-opd, and-then, no-more, assigns, land, returns, enter, alloc1, alloc0, params1, pass1, pass0, free1, free0}
+use types.Run.{look, init, forget, stop, hop, fld, from, load, of-opd, and-then, no-more, assigns, land, returns, enter, alloc1, alloc0}
+use types.Run.{params1, pass1, pass0, free1, free0}
 use types.SemTy.{Body}
 use sound.WpLaws.{FmC, fmOf, WpFn-mono}
 use denote.RattleType.{RattleType, owns}
@@ -175,7 +180,8 @@ module _ {M : Type 1} (𝓤 : URA M) (H : Heap 𝓤) (A : Atoms 𝓤) (W : Given
         opens ! tt (B κ′) {h = h} b o (λ vs. spelt ! (B κ′) (Is (B κ′)) (shows 𝓤 H A (B κ′)) (LL.vals D L) (LL.tells D L) fullShare h vs b o $
         use1 W (‵ (fat fullShare (T′.mir erased) b o (T′.lowered h))) (W .laws .raw-at fullShare (T′.mir erased) b o (T′.lowered h)) $
         move ! (1 ∷ []) $ peeks ! (B κ′) (Is (B κ′)) (shows 𝓤 H A (B κ′)) h (T′.lowered h ∷ []) (λ g. move ! (1 ∷ 0 ∷ []) $
-        -- [the struct's cell; what the struct owns; the open borrow; obs; auth; 'a's token; emp; _4; …; _3; …; _2; …; _1; …; room for _0; …]
+        -- [the struct's cell; what the struct owns; the open borrow; obs; auth; 'a's token; emp; _4; …; _3; …; _2; …; _1; …; room for _0;
+        -- …]
         assigns ! (of-opd ! (load ! (from ! (hop ! (look ! 13 refl) (fld ! refl (stop !)))) (look-in ! 0 (sub ! 0 refl (whole !))))) (from ! (stop !)) (init ! 11 refl (tt, LL.lawful D L 𝓤 H A W .typed h _ g .0 .1 .0)) $
         assigns ! (of-opd ! (load ! (from ! (hop ! (look ! 13 refl) (fld ! refl (stop !)))) (look-in ! 0 (sub ! 2 refl (whole !))))) (from ! (stop !)) (init ! 9 refl (tt, LL.lawful D L 𝓤 H A W .typed h _ g .0 .1 .1 .1 .0)) $
         -- the call of `next_at`
@@ -183,7 +189,8 @@ module _ {M : Type 1} (𝓤 : URA M) (H : Heap 𝓤) (A : Atoms 𝓤) (W : Given
         calls-at ! fm (NextAt 𝓤 H A at-mem run) known-next to-next (and-then ! (load ! (from ! (stop !)) (look ! 11 refl)) (and-then ! (load ! (from ! (stop !)) (look ! 9 refl)) (no-more !))) (λ w.
         use1 W (later (some (λ (m : ℕ). ((‵ (flft κ′ q′) ⊛ ‵ ftrue) ⊛ ‵ (usize .own m (w ∷ []))) ⊛ raw (ensured 𝓤 H A next-at.ended (next-at.clauses 𝓤 H A at-mem run) (κ′, tt) (h .job, (h .at, tt)) tt m)))) (id⊢ 𝓤 _) $ await ! tt $ pick ! (λ m.
         split ! $ move ! (1 ∷ []) $ use1 W (raw (fact 𝓤 (m ≡ cursor (now (h .job)) (h .at)))) (next-said m) $ heard ! (m ≡ cursor (now (h .job)) (h .at)) (λ em. split ! $ move ! (1 ∷ []) $
-        -- [the number; 'a's token; what the struct owns; the cell; the open borrow; obs; auth; emp; room for _4; …; _3; …; _2; …; _1; …; room for _0; …]
+        -- [the number; 'a's token; what the struct owns; the cell; the open borrow; obs; auth; emp; room for _4; …; _3; …; _2; …; _1; …;
+        -- room for _0; …]
         peeks ! usize (Is usize) (shows 𝓤 H A usize) m (w ∷ []) (λ is.
         land ! (from ! (stop !)) (init ! 8 refl (uint-lawful 𝓤 H A W w64 .typed m _ is .0)) $ rewrite ! 8 (λ (u : Val). ‵ (fat fullShare (tyInt w64) l₄ 0 u)) (ap only (is .0)) refl $ drop ! $
         -- ['a's token; what the struct owns; the cell; the open borrow; obs; auth; emp; _4; …; _3; …; _2; …; _1; …; room for _0; …]
@@ -193,7 +200,8 @@ module _ {M : Type 1} (𝓤 : URA M) (H : Heap 𝓤) (A : Atoms 𝓤) (W : Given
         calls-at ! fm (NthMove 𝓤 H A at-mem run) known-nth to-nth (and-then ! (load ! (from ! (stop !)) (look ! 11 refl)) (and-then ! (load ! (from ! (stop !)) (look ! 9 refl)) (no-more !))) (λ u.
         use1 W (later (some (λ (t : Handed). ((‵ (flft κ′ q′) ⊛ ‵ ftrue) ⊛ ‵ (S.the-row .own t (u ∷ []))) ⊛ raw (ensured 𝓤 H A nth-move.ended (nth-move.clauses 𝓤 H A at-mem run) (κ′, tt) (h .job, (h .at, tt)) tt t)))) (id⊢ 𝓤 _) $ await ! tt $ pick ! (λ t.
         split ! $ move ! (1 ∷ []) $ use1 W (raw (fact 𝓤 (t ≡ handed (now (h .job)) (h .at)))) (nth-said t) $ heard ! (t ≡ handed (now (h .job)) (h .at)) (λ et. split ! $ move ! (1 ∷ []) $
-        -- [the result; 'a's token; what the struct owns; the cell; the open borrow; obs; auth; emp; _4; …; _3; …; _2; …; _1; …; room for _0; …]
+        -- [the result; 'a's token; what the struct owns; the cell; the open borrow; obs; auth; emp; _4; …; _3; …; _2; …; _1; …; room for
+        -- _0; …]
         peeks ! S.the-row (Is S.the-row) (shows 𝓤 H A S.the-row) t (u ∷ []) (λ is′.
         land ! (from ! (stop !)) (init ! 16 refl (EL.lawful S.the-type S′.the-laws 𝓤 H A W tt .typed t _ is′ .0)) $
         -- the borrow is closed at the moved reader

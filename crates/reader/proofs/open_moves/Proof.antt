@@ -1,5 +1,7 @@
--- `open_moves` meets its contract: a walk of its MIR, by hand. A reader is made of the slice passed, the number that `opening` returned, and 0. All that the proof knows of `opening` is that it meets its contract.
--- A `&[u8]` is Copy, so what it owns is had three times: for the call, for job at exit, and inside the result, beside the facts of the two numbers.
+-- `open_moves` meets its contract: a walk of its MIR, by hand. A reader is made of the slice passed, the number that `opening` returned,
+-- and 0. All that the proof knows of `opening` is that it meets its contract.
+-- A `&[u8]` is Copy, so what it owns is had three times: for the call, for job at exit, and inside the result, beside the facts of the two
+-- numbers.
 use mathlib.Core.Path.{_≡_, refl, ap}
 use Prim.Native.Nat.{ℕ, _<_, _^_}
 use mathlib.Core.List.{List, [], _∷_}
@@ -17,9 +19,11 @@ use prog.Wp.{Heap, Calls, Loops, WpFn, Tables}
 use ghost.Atoms.{Atoms, sem}
 use contract.Monad.{Fun, fact}
 use contract.Running.{givenOf, tables, tablesOf}
-use types.Kit.{Given, ‵, raw, _⊛_, ⋆, some, later, _$_, _∵_, !, qed, by, move, drop, use1, use2, split, join, pick, rewrite, fsplit, fjoin, suffices, frame, await, done}
+use types.Kit.{Given, ‵, raw, _⊛_, ⋆, some, later, _$_, _∵_, !, qed, by, move, drop, use1, use2, split, join, pick, rewrite, fsplit, fjoin}
+use types.Kit.{suffices, frame, await, done}
 use types.Part.{agg}
-use types.Run.{look, init, forget, stop, from, load, lit, and-then, no-more, assigns, land, returns, enter, alloc1, alloc0, params1, pass1, pass0, free1, free0}
+use types.Run.{look, init, forget, stop, from, load, lit, and-then, no-more, assigns, land, returns, enter, alloc1, alloc0, params1, pass1}
+use types.Run.{pass0, free1, free0}
 use sound.WpLaws.{FmC, fmOf, WpFn-mono}
 use denote.RattleType.{owns}
 use denote.Laws.{Is, shows}

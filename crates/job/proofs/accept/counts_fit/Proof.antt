@@ -42,7 +42,8 @@ returns-7 c =
 
 returns-8 : tie.Need-returns-8
 returns-8 c =
-    refused (c .before .before .before .before .before .before .before .before .before .before .before .before .before .before .before .before .args .l) (λ h. omega arith)
+    let d = c .before .before .before .before .before .before .before .before in
+    refused (d .before .before .before .before .before .before .before .before .args .l) (λ h. omega arith)
 
 returns-9 : tie.Need-returns-9
 returns-9 c =
