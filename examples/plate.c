@@ -44,6 +44,10 @@ static void play(const uint8_t *plan, size_t plan_len, uint32_t seed) {
     printf(" by %u, so %s\n", (unsigned)say.number, actions[say.action]);
     uint32_t outcome = outcome_of(at.state, say.action, &seed);
     at = cabinet_follow(job, sizeof job, at.state, at.goal, say.action, outcome);
+    if (at.refusal != CABINET_OK) { /* the table does not list the outcome, and a refusal's figures are no place */
+      printf("refused %u\n", (unsigned)at.refusal);
+      return;
+    }
   }
 }
 

@@ -92,6 +92,7 @@ cabinet_advised cabinet_advice(const uint8_t *job, size_t job_len, const uint8_t
        if (say.action == CABINET_NO_ACTION) break;   // met where say.value is CABINET_WINNING, else lost
        uint32_t outcome = perform(say.action);        // your machine: the state that it is in now
        at = cabinet_follow(job, job_len, at.state, at.goal, say.action, outcome);
+       if (at.refusal != CABINET_OK) break;           // an outcome that the table does not list: at is no place any more
      }
 */
 

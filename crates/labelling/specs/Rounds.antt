@@ -51,6 +51,11 @@ pub record Settled (j : Job) (v : Phase) (f : Place → Bool) (e : Place → Ent
   pub more : r .over ≡ true → (k : ℕ) × (suc k ≡ places j)
       × ((p : Place) × Inside (arena j) p × (reached v (arena j) f k p ≡ false) × (reached v (arena j) f (suc k) p ≡ true))
 
+-- whatever the words and the plan held before the rounds of a phase, those leave it settled
+abbrev pub Settles : Job → Phase → (ws plan : List ℕ) → Rounds → (plan′ : List ℕ) → Type 0
+Settles j v ws plan r plan′ =
+    (f : Place → Bool) (e : Place → Entry) (before : List ℕ) → Holds j f e before ws plan → Settled j v f e before r plan′
+
 -- What labelling leaves: each entry is right and the rest as before; or, over, some place has the number S·Q.
 pub record Labelled (j : Job) (before : List ℕ) (over : Bool) (plan : List ℕ) : Type 0 where
   pub as-long : length plan ≡ length before

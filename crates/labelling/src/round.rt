@@ -37,7 +37,8 @@ fn label_place(
 )
     requires { ⌜ Ready (now job) l s start end (now new) (now plan) ⌝ }
     requires { ⌜ q < l .goals ⌝ }
-    ensures { λ _. ⌜ Passed (now (job .entry)) l phase number (now (old .entry)) (s * l .goals + q) (s * l .goals + q + 1) (now (new .entry)) (now (plan .entry)) (now (new .exit)) (now (plan .exit)) ⌝ }
+    ensures { λ _. ⌜ Passed (now (job .entry)) l phase number (now (old .entry)) (s * l .goals + q) (s * l .goals + q + 1)
+        (now (new .entry)) (now (plan .entry)) (now (new .exit)) (now (plan .exit)) ⌝ }
 {
     let i = s * l.goals + q;
     if rules::places::has_place(old, i) {
@@ -76,7 +77,8 @@ fn label_state(
     number: u16,
 )
     requires { ⌜ Ready (now job) l s start end (now new) (now plan) ⌝ }
-    ensures { λ _. ⌜ Passed (now (job .entry)) l phase number (now (old .entry)) (s * l .goals) (s * l .goals + l .goals) (now (new .entry)) (now (plan .entry)) (now (new .exit)) (now (plan .exit)) ⌝ }
+    ensures { λ _. ⌜ Passed (now (job .entry)) l phase number (now (old .entry)) (s * l .goals) (s * l .goals + l .goals)
+        (now (new .entry)) (now (plan .entry)) (now (new .exit)) (now (plan .exit)) ⌝ }
 {
     let goals = l.goals;
     let mut q: usize = 0;
@@ -97,7 +99,8 @@ pub fn one_round(
 ) -> PlaceSet
     requires { ⌜ Fit (now job) l ⌝ }
     requires { ⌜ 4 * (l .states * l .goals) ≤ length (now plan) ⌝ }
-    ensures { λ r. ⌜ Passed (now (job .entry)) l phase number (set .words) 0 (l .states * l .goals) (set .words) (now (plan .entry)) (r .words) (now (plan .exit)) ⌝ }
+    ensures { λ r. ⌜ Passed (now (job .entry)) l phase number (set .words) 0 (l .states * l .goals)
+        (set .words) (now (plan .entry)) (r .words) (now (plan .exit)) ⌝ }
 {
     let old = set.words;
     let mut new = set.words;

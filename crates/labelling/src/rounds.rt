@@ -1,13 +1,9 @@
 // Rounds of a phase until one adds nothing, and both phases.
-ghost use mathlib.Core.Bool.{Bool};
-ghost use mathlib.Core.List.{List};
-ghost use Prim.Native.Nat.{ℕ, _*_, _≤_};
+ghost use Prim.Native.Nat.{_*_, _≤_};
 ghost use lib.ListN.{length};
 ghost use Rattle.rules.specs.Bytes.{said};
 ghost use Rattle.job.specs.Layout.{Fit};
-ghost use Rattle.rules.specs.declared.place.Place.{Place};
-ghost use Rattle.rules.specs.declared.entry.Entry.{Entry};
-ghost use Rattle.labelling.specs.Rounds.{Holds, Settled, Labelled};
+ghost use Rattle.labelling.specs.Rounds.{Settles, Labelled};
 use crate::scan::Phase;
 use job::layout::Layout;
 use rules::places::PlaceSet;
@@ -22,7 +18,7 @@ pub struct Rounds {
 pub fn all_rounds(plan: &mut [u8], job: &[u8], l: Layout, set: PlaceSet, phase: Phase) -> Rounds
     requires { ⌜ Fit (now job) l ⌝ }
     requires { ⌜ 4 * (l .states * l .goals) ≤ length (now plan) ⌝ }
-    ensures { λ r. ⌜ ((f : Place → Bool) (e : Place → Entry) (before : List ℕ) → Holds (said (now (job .entry))) f e before (set .words) (now (plan .entry)) → Settled (said (now (job .entry))) phase f e before r (now (plan .exit))) ⌝ }
+    ensures { λ r. ⌜ Settles (said (now (job .entry))) phase (set .words) (now (plan .entry)) r (now (plan .exit)) ⌝ }
 {
     let n = l.states * l.goals;
     let mut got = set;

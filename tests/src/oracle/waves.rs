@@ -39,27 +39,21 @@ impl Backward<'_> {
     }
 }
 
-/// The number of each winning place: an action wins once none of its outcomes is left unknown.
-pub fn winning(job: &Job) -> Vec<Option<usize>> {
-    let backward = Backward::new(job);
-    let mut unknown = vec![0_usize; job.places() * 16];
-    for one in &job.moves {
-        for goal in 0..job.goals {
-            unknown[job.place(one.state, goal) * 16 + one.action] += 1;
-        }
-    }
-    let mut wave: Vec<usize> = (0..job.places()).filter(|place| job.last[place % job.goals]).collect();
-    let mut numbers = vec![None; job.places()];
-    wave.iter().for_each(|&place| numbers[place] = Some(0));
+/// Runs waves backward from the first one, whose places have their numbers, and numbers each place that joins a wave. `joins` is asked
+/// once for each outcome that a wave reaches, with the place and the action that lead to it.
+fn spread(
+    backward: &Backward,
+    mut wave: Vec<usize>,
+    numbers: &mut [Option<usize>],
+    mut joins: impl FnMut(usize, usize) -> bool,
+) {
     let mut number = 0;
     while !wave.is_empty() {
         number += 1;
         let mut reached = Vec::new();
         for &place in &wave {
             backward.each_before(place, |before, action| {
-                let left = &mut unknown[before * 16 + action];
-                *left -= 1;
-                if *left == 0 && numbers[before].is_none() {
+                if joins(before, action) && numbers[before].is_none() {
                     numbers[before] = Some(number);
                     reached.push(before);
                 }
@@ -67,27 +61,31 @@ pub fn winning(job: &Job) -> Vec<Option<usize>> {
         }
         wave = reached;
     }
+}
+
+/// The number of each winning place: an action wins once none of its outcomes is left unknown.
+pub fn winning(job: &Job) -> Vec<Option<usize>> {
+    let mut unknown = vec![0_usize; job.places() * 16];
+    for one in &job.moves {
+        for goal in 0..job.goals {
+            unknown[job.place(one.state, goal) * 16 + one.action] += 1;
+        }
+    }
+    let wave: Vec<usize> = (0..job.places()).filter(|place| job.last[place % job.goals]).collect();
+    let mut numbers = vec![None; job.places()];
+    wave.iter().for_each(|&place| numbers[place] = Some(0));
+    spread(&Backward::new(job), wave, &mut numbers, |before, action| {
+        let left = &mut unknown[before * 16 + action];
+        *left -= 1;
+        *left == 0
+    });
     numbers
 }
 
 /// The number of each pending place: its distance from the nearest winning one.
 pub fn pending(job: &Job, winning: &[Option<usize>]) -> Vec<Option<usize>> {
-    let backward = Backward::new(job);
+    let wave: Vec<usize> = (0..job.places()).filter(|&place| winning[place].is_some()).collect();
     let mut numbers = vec![None; job.places()];
-    let mut wave: Vec<usize> = (0..job.places()).filter(|&place| winning[place].is_some()).collect();
-    let mut number = 0;
-    while !wave.is_empty() {
-        number += 1;
-        let mut reached = Vec::new();
-        for &place in &wave {
-            backward.each_before(place, |before, _| {
-                if winning[before].is_none() && numbers[before].is_none() {
-                    numbers[before] = Some(number);
-                    reached.push(before);
-                }
-            });
-        }
-        wave = reached;
-    }
+    spread(&Backward::new(job), wave, &mut numbers, |before, _| winning[before].is_none());
     numbers
 }
