@@ -6,9 +6,32 @@ N ?= 2000000
 CC ?= cc
 CFLAGS ?= -O2
 WARNINGS = -Wall -Wextra -Wpedantic -Werror
-TESTS = build/cargo/release/cabinet-tests
+TESTS = CABINET_CALLER="$(RUN) build/caller" build/cargo/release/cabinet-tests
 
-.PHONY: test plan lib examples install bench soak tests try-examples try-listing try-inputs need-rt need-cc need-cargo
+# Programs are for x86-64: $(call c_program,FILE,PROGRAM) makes one from C with the archive, and $(RUN) before a program's name runs it. On
+# another processor the toolchain does both: its C compiler with this machine's headers, its linker and C library, and its emulator. What
+# asks the compiler stays `=`, since the compiler may be installed on the way.
+MACHINE := $(shell uname -m)
+C_WORDS = -std=c11 $(WARNINGS) $(CFLAGS) -Iinclude
+ifeq ($(MACHINE),x86_64)
+RUN =
+install_listing = cp target/bin/listing $(DESTDIR)$(PREFIX)/bin/cabinet-list
+c_program = $(CC) $(C_WORDS) $(1) build/libcabinet.a -o $(2)
+else
+KIT = $(patsubst %/docs/START-HERE.md,%,$(shell rt doc 2>/dev/null))/on/$(MACHINE)
+TOOLS = $(KIT)/toolchain
+RUN = $(TOOLS)/bin/qemu-x86_64 $(TOOLS)/lib/ld-linux-x86-64.so.2 --library-path $(TOOLS)/lib
+HEADERS = $(shell $(CC) -print-file-name=include) /usr/include/$(shell $(CC) -print-multiarch) /usr/include
+c_object = $(TOOLS)/bin/clang --target=x86_64-linux-gnu -nostdinc $(addprefix -isystem ,$(HEADERS)) $(C_WORDS) -c
+c_link = $(KIT)/bin/rattle-link --target x86_64-unknown-linux-gnu --toolchain $(TOOLS)
+c_program = $(c_object) $(1) -o $(2).o && { $(c_link) -o $(2) $(2).o build/libcabinet.a 2>build/link.log || { cat build/link.log; exit 1; }; }
+install_listing = mkdir -p $(DESTDIR)$(PREFIX)/libexec && cp target/bin/listing $(DESTDIR)$(PREFIX)/libexec/cabinet-list && \
+  printf '\#!/bin/sh\nexec %s %s\n' '$(RUN)' $(PREFIX)/libexec/cabinet-list >$(DESTDIR)$(PREFIX)/bin/cabinet-list && \
+  chmod 755 $(DESTDIR)$(PREFIX)/bin/cabinet-list && \
+  echo "The archive is for x86-64, and so is the listing: cabinet-list is a script that runs it under the toolchain's emulator."
+endif
+
+.PHONY: test plan lib examples install bench soak tests try-examples try-listing try-inputs need-rt need-cc need-cargo need-x86
 
 # Everything: the layout of the files, the calls from C, the listing, many inputs, and last the toolchain's gate.
 test: need-rt need-cc need-cargo
@@ -20,23 +43,26 @@ test: need-rt need-cc need-cargo
 plan: need-rt
 	@mkdir -p build
 	@rt check listing >build/plan.log 2>&1 || { cat build/plan.log; exit 1; }
-	@target/bin/listing <$(JOB)
+	@$(RUN) target/bin/listing <$(JOB)
 
-# The archive for C, in build/.
-lib: need-rt
+# The archive for C. It is proved and made again when a file or folder of crates/ is newer, or the toolchain.
+lib: build/libcabinet.a
+
+build/libcabinet.a: crates.txt $(shell find crates) $(shell command -v rt 2>/dev/null) | need-rt
 	@mkdir -p build
 	@rt staticlib cabinet >build/lib.log 2>&1 || { cat build/lib.log; exit 1; }
-	@cmp -s target/staticlib/libcabinet.a build/libcabinet.a || cp target/staticlib/libcabinet.a build/libcabinet.a
+	@cp target/staticlib/libcabinet.a $@
 
 examples: lib need-cc
-	@$(CC) -std=c11 $(WARNINGS) $(CFLAGS) -Iinclude examples/plate.c build/libcabinet.a -o build/plate
+	@$(call c_program,examples/plate.c,build/plate)
 
-# The independent planner and the many inputs, over the archive.
-tests: lib need-cargo
-	@CABINET_LIB_DIR=$(CURDIR)/build CARGO_TARGET_DIR=$(CURDIR)/build/cargo cargo build --release --quiet --offline --manifest-path tests/Cargo.toml
+# The program that makes the calls of the tests, over the archive, and the independent planner with the many inputs.
+tests: lib need-cc need-cargo
+	@$(call c_program,tests/caller.c,build/caller)
+	@CARGO_TARGET_DIR=$(CURDIR)/build/cargo cargo build --release --quiet --offline --manifest-path tests/Cargo.toml
 
 try-examples: examples
-	@build/plate >build/plate.out
+	@$(RUN) build/plate >build/plate.out
 	@diff examples/plate.out build/plate.out
 	@echo '#include "cabinet.h"' >build/header.cc
 	@$(CC) -x c++ -std=c++11 $(WARNINGS) -Iinclude -fsyntax-only build/header.cc
@@ -47,14 +73,14 @@ try-inputs: tests
 
 try-listing: tests
 	@rt check listing >build/plan.log 2>&1 || { cat build/plan.log; exit 1; }
-	@sh tests/listing/run target/bin/listing $(TESTS)
+	@sh tests/listing/run $(CURDIR)/build/cargo/release/cabinet-tests $(RUN) $(CURDIR)/target/bin/listing
 
 # More inputs: make soak N=10000000
 soak: tests
 	@$(TESTS) soak $(N)
 
 # Times beside the same rounds in plain Rust and the independent planner, also into docs/BENCH.md.
-bench: tests
+bench: need-x86 tests
 	@$(TESTS) bench "$$(date +%Y-%m-%d)" | tee build/bench.md
 	@{ echo '# Speed'; echo; cat build/bench.md; } >docs/BENCH.md
 
@@ -64,14 +90,18 @@ install: lib
 	@cp build/libcabinet.a $(DESTDIR)$(PREFIX)/lib/
 	@cp include/cabinet.h $(DESTDIR)$(PREFIX)/include/
 	@sed 's|@PREFIX@|$(PREFIX)|' cabinet.pc.in >$(DESTDIR)$(PREFIX)/lib/pkgconfig/cabinet.pc
-	@cp target/bin/listing $(DESTDIR)$(PREFIX)/bin/cabinet-list
+	@$(install_listing)
 	@echo "installed the archive, the header, cabinet.pc and cabinet-list under $(DESTDIR)$(PREFIX)"
 
 need-rt:
 	@command -v rt >/dev/null 2>&1 || { echo "Missing: the Rattle toolchain, that is the command rt on the PATH." >&2; exit 1; }
 
+# The tests need a compiler of C and C++ and cargo. Root on Debian gets what is missing, anyone else its name.
 need-cc:
-	@command -v $(CC) >/dev/null 2>&1 || { echo "Missing: a C compiler, that is the command $(CC) on the PATH." >&2; exit 1; }
+	@sh tests/need c++ g++
 
-need-cargo:
-	@command -v cargo >/dev/null 2>&1 || { echo "Missing: cargo, with which the tests in tests/ are built." >&2; exit 1; }
+need-cargo: need-cc
+	@sh tests/need cargo cargo-web 1.88
+
+need-x86:
+	@[ -z "$(RUN)" ] || { echo "Times are taken on x86-64 alone: an emulator's say nothing." >&2; exit 1; }

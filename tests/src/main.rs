@@ -2,15 +2,14 @@
 
 mod bench;
 mod brute;
+mod cases;
 mod check;
-mod fence;
-mod library;
 mod make;
 mod oracle;
 mod random;
 mod report;
-mod trap;
 
+use cases::Cases;
 use check::Desk;
 use make::Inputs;
 use std::io::Read;
@@ -31,10 +30,19 @@ cabinet-tests list                 the oracle's listing of the job on standard i
 fn tried(inputs: &Inputs, seed: u64, numbers: std::ops::Range<u64>) -> bool {
     println!("seed {seed}");
     check::known();
+    cases::fences_hold();
     let start = Instant::now();
-    let mut desk = Desk::new();
+    let mut desk = Desk::new(Cases::new());
     for number in numbers.clone() {
         desk.check(&inputs.get(number));
+        if desk.cases.broken {
+            break;
+        }
+    }
+    if let Some(wrong) = desk.cases.end() {
+        let (input, mut again) = (inputs.get(wrong.number), Desk::new(Cases::none()));
+        again.check(&input);
+        report::stop(&input, again.cases.calls.get(wrong.call), &wrong.how);
     }
     let seconds = start.elapsed().as_secs_f64();
     let count = numbers.end - numbers.start;

@@ -3,20 +3,21 @@
 mod plain;
 mod table;
 
-use crate::library::{self, lend};
+use crate::cases::{Cases, Side};
 use crate::make::{self, known, Doubt};
 use crate::oracle::Oracle;
+use crate::report::Call;
 use std::hint::black_box;
-use std::time::{Duration, Instant};
+use std::time::Instant;
 
 const SEED: u64 = 1;
 /// Each time in the table is the median of so many, taken in turn.
 const REPEATS: usize = 15;
 /// A time is taken over as many calls as fill this.
-const SPAN: Duration = Duration::from_millis(5);
+const SPAN: f64 = 0.005;
 
-/// A planner under the clock, from job bytes to plan bytes.
-type Voice = fn(&[u8], &mut [u8]);
+/// A planner under the clock, from job bytes to plan bytes: the seconds that so many calls take.
+type Voice = fn(&mut Cases, &[u8], &mut [u8], u32) -> f64;
 
 /// One line of the table: times for one call, in seconds.
 pub struct Line {
@@ -28,34 +29,33 @@ pub struct Line {
     times: [f64; 3],
 }
 
-fn by_library(job: &[u8], plan: &mut [u8]) {
-    let room = library::Lent { at: plan.as_mut_ptr(), length: plan.len() };
-    assert_eq!(library::plan(lend(job), room), 0);
+fn by_library(cases: &mut Cases, _: &[u8], _: &mut [u8], calls: u32) -> f64 {
+    cases.time(Side::End, calls)
 }
 
-fn by_plain(job: &[u8], plan: &mut [u8]) {
-    assert_eq!(plain::plan(job, plan), 0);
+fn by_plain(_: &mut Cases, job: &[u8], plan: &mut [u8], calls: u32) -> f64 {
+    let start = Instant::now();
+    for _ in 0..calls {
+        assert_eq!(plain::plan(black_box(job), black_box(&mut *plan)), 0);
+    }
+    start.elapsed().as_secs_f64()
 }
 
-fn by_oracle(job: &[u8], plan: &mut [u8]) {
-    let oracle = Oracle::new(job);
-    plan[..oracle.plan.len()].copy_from_slice(&oracle.plan);
+fn by_oracle(_: &mut Cases, job: &[u8], plan: &mut [u8], calls: u32) -> f64 {
+    let start = Instant::now();
+    for _ in 0..calls {
+        let oracle = Oracle::new(black_box(job));
+        black_box(&mut *plan)[..oracle.plan.len()].copy_from_slice(&oracle.plan);
+    }
+    start.elapsed().as_secs_f64()
 }
 
 const VOICES: [Voice; 3] = [by_library, by_plain, by_oracle];
 
-fn time(voice: Voice, job: &[u8], plan: &mut [u8], calls: u32) -> Duration {
-    let start = Instant::now();
-    for _ in 0..calls {
-        voice(black_box(job), black_box(plan));
-    }
-    start.elapsed()
-}
-
 /// How many calls fill the span.
-fn calls(voice: Voice, job: &[u8], plan: &mut [u8]) -> u32 {
+fn calls(cases: &mut Cases, voice: Voice, job: &[u8], plan: &mut [u8]) -> u32 {
     let mut calls = 1;
-    while time(voice, job, plan, calls) < SPAN {
+    while voice(cases, job, plan, calls) < SPAN {
         calls *= 2;
     }
     calls
@@ -66,19 +66,22 @@ fn median(mut times: Vec<f64>) -> f64 {
     times[times.len() / 2]
 }
 
-fn measure(name: &'static str, job: &[u8]) -> Line {
+fn measure(cases: &mut Cases, name: &'static str, job: &[u8]) -> Line {
     let oracle = Oracle::new(job);
     let mut plan = vec![0; 16_384];
-    for voice in VOICES {
+    cases.due(&oracle.plan);
+    cases.input(0, Side::End, job);
+    cases.call(Call::Plan { plan_len: plan.len(), before: 0, side: Side::End }, [0; 4]);
+    for voice in [by_plain, by_oracle] as [Voice; 2] {
         plan.fill(0xAA);
-        voice(job, &mut plan);
+        voice(cases, job, &mut plan, 1);
         assert!(plan.starts_with(&oracle.plan), "{name}: the planners differ");
     }
-    let calls = VOICES.map(|voice| calls(voice, job, &mut plan));
+    let calls = VOICES.map(|voice| calls(cases, voice, job, &mut plan));
     let mut times = [(); 3].map(|()| Vec::new());
     for _ in 0..REPEATS {
         for (index, voice) in VOICES.into_iter().enumerate() {
-            let taken = time(voice, job, &mut plan, calls[index]).as_secs_f64();
+            let taken = voice(cases, job, &mut plan, calls[index]);
             times[index].push(taken / f64::from(calls[index]));
         }
     }
@@ -89,12 +92,13 @@ fn measure(name: &'static str, job: &[u8]) -> Line {
 }
 
 pub fn bench(date: &str) {
+    let cases = &mut Cases::new();
     let lines = [
-        measure("One plate", &known::one_plate()),
-        measure("middling", &make::middling(SEED)),
-        measure("longest", &make::longest(SEED)),
-        measure("deepest, all winning", &make::deepest(SEED, Doubt::None)),
-        measure("deepest, all pending", &make::deepest(SEED, Doubt::AtTheEnd)),
+        measure(cases, "One plate", &known::one_plate()),
+        measure(cases, "middling", &make::middling(SEED)),
+        measure(cases, "longest", &make::longest(SEED)),
+        measure(cases, "deepest, all winning", &make::deepest(SEED, Doubt::None)),
+        measure(cases, "deepest, all pending", &make::deepest(SEED, Doubt::AtTheEnd)),
     ];
     table::print(&lines, date, REPEATS);
 }

@@ -2,10 +2,9 @@
 
 use super::figures::{figure, odd};
 use super::Trial;
-use crate::library;
 use crate::oracle::Job;
 use crate::random::Random;
-use crate::report::{self, Call};
+use crate::report::Call;
 
 impl Trial<'_> {
     pub fn advising(&mut self) {
@@ -21,14 +20,11 @@ impl Trial<'_> {
 
     /// Asks for advice with these bytes as the plan, which touch the fence and can not be written.
     fn ask(&mut self, plan: &[u8], places: &[[u32; 2]]) {
-        let lent = self.plan.lend_locked(self.side, plan);
+        self.cases.lend(self.side, plan);
         for &[state, goal] in places {
             let due = self.oracle.advice(plan, state, goal);
             let asked_entry = self.asked_entry(plan, state, goal);
-            report::calling(Call::Advice { plan_len: plan.len(), state, goal, asked_entry, side: self.side });
-            let answer = library::advice(self.job, lent, [state, goal]);
-            self.tally.answer(answer[0]);
-            report::same("refusal, value, action, number", answer, due);
+            self.call(Call::Advice { plan_len: plan.len(), state, goal, asked_entry, side: self.side }, due);
         }
     }
 

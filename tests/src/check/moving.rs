@@ -2,16 +2,13 @@
 
 use super::figures::{figure, odd};
 use super::Trial;
-use crate::library;
-use crate::report::{self, Call};
+use crate::report::Call;
 
 impl Trial<'_> {
     pub fn moving(&mut self) {
-        report::calling(Call::Start { side: self.side });
-        let answer = library::start(self.job);
-        self.tally.answer(answer[0]);
-        report::same("refusal, state, goal state", answer, self.oracle.start());
-        self.play([answer[1], answer[2]]);
+        let [refusal, state, goal] = self.oracle.start();
+        self.call(Call::Start { side: self.side }, [refusal, state, goal, 0]);
+        self.play([state, goal]);
         self.play_from_anywhere();
         for _ in 0..8 {
             self.follow_odd();
@@ -19,11 +16,9 @@ impl Trial<'_> {
     }
 
     fn follow(&mut self, [state, goal]: [u32; 2], action: u32, outcome: u32) -> [u32; 3] {
-        report::calling(Call::Follow { state, goal, action, outcome, side: self.side });
-        let answer = library::follow(self.job, [state, goal], action, outcome);
-        self.tally.answer(answer[0]);
-        report::same("refusal, state, goal state", answer, self.oracle.follow([state, goal], action, outcome));
-        answer
+        let due = self.oracle.follow([state, goal], action, outcome);
+        self.call(Call::Follow { state, goal, action, outcome, side: self.side }, [due[0], due[1], due[2], 0]);
+        due
     }
 
     /// Follows listed moves by chance, past acceptance too, until nothing is open or it is enough.

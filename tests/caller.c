@@ -1,0 +1,178 @@
+/* Makes the calls of the tests and holds each answer to the one that is due. It reads lines, some with bytes after them, from its standard input
+   and ends with status 0 and the count of calls when all answers were right. At the first wrong one it says which call of which input it was, and ends with status 1.
+
+   A lent buffer ends at a page that can be neither read nor written, or begins right after one. The job's pages can only be read, and so can the
+   plan's but in planning that is to succeed. `caller N`, N from 0 to 5, steps over one of these fences. */
+
+#define _DEFAULT_SOURCE
+#include <signal.h>
+#include <stdio.h>
+#include <stdlib.h>
+#include <string.h>
+#include <sys/mman.h>
+#include <time.h>
+#include <unistd.h>
+
+#include "cabinet.h"
+
+enum { PAGE = 4096, JOB_SIZE = 20 * PAGE, PLAN_SIZE = 5 * PAGE };
+enum { INPUT, DUE, LEND, PLAN, START, FOLLOW, ADVICE, TIME };
+
+/* A line: what to do, the side of the fence (1: buffers begin after it), how many bytes come after it, the call's figures, the answer that is due. */
+static struct {
+  uint32_t what, side, length, figures[4], due[4];
+} line;
+
+/* Memory between two fences. No page is shared with another process: an emulator slows every call down once one is. */
+typedef struct {
+  uint8_t *inside;
+  size_t size;
+  int rights;
+} fenced;
+
+static fenced jobs = {NULL, JOB_SIZE, PROT_NONE}, plans = {NULL, PLAN_SIZE, PROT_NONE};
+
+static uint8_t due_plan[PLAN_SIZE], pool[2 * PLAN_SIZE];
+static uint32_t job_len, due_len, lent_len, input[2], calls;
+static unsigned long long all_calls;
+
+static void fail(const char *why) {
+  fprintf(stderr, "caller: %s\n", why);
+  exit(2);
+}
+
+/* Says where it went wrong and how. */
+static void wrong(const char *how, const uint32_t *found, const uint32_t *due, int count) {
+  printf("%llu %u %s", (unsigned long long)input[1] << 32 | input[0], (unsigned)calls, how);
+  for (int i = 0; i < count; i++) printf(" %u", (unsigned)found[i]);
+  if (count > 0) printf(", due");
+  for (int i = 0; i < count; i++) printf(" %u", (unsigned)due[i]);
+  printf("\n");
+  fflush(stdout);
+  _exit(1);
+}
+
+/* An emulator may start a handler with the stack out of line, hence the attribute. */
+__attribute__((force_align_arg_pointer)) static void ended(int number) {
+  char how[80];
+  signal(number, SIG_DFL); /* a second one ends the run at once */
+  snprintf(how, sizeof how, "the call did not return: %s (signal %d)", number == SIGSEGV ? "memory fence touched" : "sudden end", number);
+  wrong(how, NULL, NULL, 0);
+}
+
+/* From now on the memory can be read, or read and written. */
+static void set_rights(fenced *memory, int rights) {
+  if (memory->rights != rights && mprotect(memory->inside, memory->size, rights) != 0) fail("no rights set on memory");
+  memory->rights = rights;
+}
+
+static void set_fences(fenced *memory) {
+  uint8_t *all = mmap(NULL, memory->size + 2 * PAGE, PROT_NONE, MAP_PRIVATE | MAP_ANONYMOUS, -1, 0);
+  if (all == MAP_FAILED) fail("no memory for fences");
+  memory->inside = all + PAGE;
+}
+
+/* Where a buffer of this length begins. */
+static uint8_t *place(const fenced *memory, size_t length) { return memory->inside + (line.side ? 0 : memory->size - length); }
+
+/* Puts the bytes that follow the line against the fence and locks them. */
+static uint32_t take(fenced *memory) {
+  if (line.length > memory->size) fail("a line with too many bytes");
+  set_rights(memory, PROT_READ | PROT_WRITE);
+  if (fread(place(memory, line.length), 1, line.length, stdin) != line.length) fail("a line without its bytes");
+  set_rights(memory, PROT_READ);
+  return line.length;
+}
+
+/* Holds bytes of the plan's memory to those that are due; the first has this place in the lent buffer. */
+static void same_bytes(const uint8_t *found, const uint8_t *due, size_t count, long first) {
+  if (memcmp(found, due, count) == 0) return;
+  size_t i = 0;
+  while (found[i] == due[i]) i++;
+  char how[80];
+  uint32_t byte[] = {found[i]}, should[] = {due[i]};
+  snprintf(how, sizeof how, "byte %ld of the plan buffer:", first + (long)i);
+  wrong(how, byte, should, 1);
+}
+
+static uint32_t plan_into(const uint8_t *job, uint32_t room) {
+  uint8_t *plan = place(&plans, room);
+  size_t at = (size_t)(plan - plans.inside), end = at + due_len;
+  const uint8_t *before = pool + line.figures[1] % PLAN_SIZE;
+  int good = line.due[0] == CABINET_OK;
+  set_rights(&plans, good ? PROT_READ | PROT_WRITE : PROT_READ);
+  if (good) memcpy(plans.inside, before, PLAN_SIZE);
+  uint32_t refusal = cabinet_plan(job, job_len, plan, room).refusal;
+  if (good && refusal == CABINET_OK) {
+    same_bytes(plans.inside, before, at, -(long)at);
+    same_bytes(plan, due_plan, due_len, 0);
+    same_bytes(plans.inside + end, before + end, PLAN_SIZE - end, (long)due_len);
+  }
+  return refusal;
+}
+
+/* The time of so many calls of planning, in nanoseconds. */
+static void say_time(const uint8_t *job, uint32_t times) {
+  struct timespec from, to;
+  set_rights(&plans, PROT_READ | PROT_WRITE);
+  clock_gettime(CLOCK_MONOTONIC, &from);
+  for (; times > 0; times--) cabinet_plan(job, job_len, plans.inside, CABINET_PLAN_MAX);
+  clock_gettime(CLOCK_MONOTONIC, &to);
+  printf("%lld\n", (to.tv_sec - from.tv_sec) * 1000000000LL + (to.tv_nsec - from.tv_nsec));
+  fflush(stdout);
+}
+
+static void call(void) {
+  const uint8_t *job = place(&jobs, job_len), *plan = place(&plans, lent_len);
+  const uint32_t *f = line.figures;
+  uint32_t answer[4] = {0, 0, 0, 0};
+  if (line.what == PLAN) {
+    answer[0] = plan_into(job, f[0]);
+  } else if (line.what == ADVICE) {
+    cabinet_advised say = cabinet_advice(job, job_len, plan, lent_len, f[0], f[1]);
+    answer[0] = say.refusal, answer[1] = say.value, answer[2] = say.action, answer[3] = say.number;
+  } else {
+    cabinet_moved to = line.what == START ? cabinet_start(job, job_len) : cabinet_follow(job, job_len, f[0], f[1], f[2], f[3]);
+    answer[0] = to.refusal, answer[1] = to.state, answer[2] = to.goal;
+  }
+  if (memcmp(answer, line.due, sizeof answer) != 0) wrong("answer", answer, line.due, 4);
+  calls++, all_calls++;
+}
+
+/* Steps over a fence or writes to locked memory, to show that it ends the call. */
+static void step_over(int fence) {
+  fenced *memory = fence < 3 ? &jobs : &plans;
+  volatile uint8_t *at = memory->inside;
+  set_rights(memory, PROT_READ);
+  if (fence % 3 == 0) at[-1];
+  if (fence % 3 == 1) at[memory->size];
+  if (fence % 3 == 2) at[0] = 0;
+}
+
+int main(int words, char **word) {
+  static const int sudden_ends[] = {SIGILL, SIGABRT, SIGBUS, SIGFPE, SIGSEGV};
+  for (size_t i = 0; i < sizeof sudden_ends / sizeof *sudden_ends; i++) signal(sudden_ends[i], ended);
+  set_fences(&jobs);
+  set_fences(&plans);
+  if (words > 1) step_over(atoi(word[1]));
+  uint32_t seed = 1;
+  for (size_t i = 0; i < sizeof pool; i++) pool[i] = (uint8_t)((seed = seed * 1664525u + 1013904223u) >> 24);
+  while (fread(&line, sizeof line, 1, stdin) == 1) {
+    switch (line.what) {
+    case INPUT:
+      if (line.side == 0) calls = 0;
+      input[0] = line.figures[0], input[1] = line.figures[1];
+      job_len = take(&jobs);
+      break;
+    case DUE:
+      due_len = line.length;
+      if (due_len > sizeof due_plan || fread(due_plan, 1, due_len, stdin) != due_len) fail("a line without its bytes");
+      break;
+    case LEND: lent_len = take(&plans); break;
+    case TIME: say_time(place(&jobs, job_len), line.figures[0]); break;
+    default: call();
+    }
+  }
+  printf("%llu calls made\n", all_calls);
+  return 0;
+}

@@ -1,0 +1,158 @@
+//! The calls to make, with the answers that are due, written as lines for the caller: a C program, linked with the library, that makes them.
+
+use crate::report::Call;
+use std::io::{BufRead, BufReader, BufWriter, Read, Write};
+use std::process::{Child, ChildStdout, Command, Stdio};
+
+/// As much memory for a plan as the caller has between its fences.
+pub const PLAN_SIZE: usize = 5 * 4_096;
+
+/// Which end of the lent memory touches a fence.
+#[derive(Clone, Copy, PartialEq, Eq)]
+pub enum Side {
+    End,
+    Begin,
+}
+
+impl std::fmt::Display for Side {
+    fn fmt(&self, to: &mut std::fmt::Formatter) -> std::fmt::Result {
+        to.write_str(if *self == Side::End { "buffers end at a fence" } else { "buffers begin after a fence" })
+    }
+}
+
+/// What a line asks of the caller.
+#[derive(Clone, Copy)]
+enum What {
+    Input,
+    Due,
+    Lend,
+    Plan,
+    Start,
+    Follow,
+    Advice,
+    Time,
+}
+
+/// What went wrong: the number of the input, which of its calls it was, and how.
+pub struct Wrong {
+    pub number: u64,
+    pub call: usize,
+    pub how: String,
+}
+
+struct Caller {
+    process: Child,
+    answers: BufReader<ChildStdout>,
+}
+
+pub struct Cases {
+    caller: Option<Caller>,
+    to: Box<dyn Write>,
+    /// The calls of the input under way.
+    pub calls: Vec<Call>,
+    /// How many calls there were in all.
+    made: u64,
+    /// The caller has stopped reading.
+    pub broken: bool,
+}
+
+/// The words of CABINET_CALLER, which start the caller.
+fn command() -> Command {
+    let words = std::env::var("CABINET_CALLER").expect("set CABINET_CALLER to the command that starts the caller");
+    let mut words = words.split_whitespace();
+    let mut command = Command::new(words.next().expect("CABINET_CALLER names a program"));
+    command.args(words).stdin(Stdio::null());
+    command
+}
+
+/// Ends the run unless each of the caller's fences stops a step over it.
+pub fn fences_hold() {
+    for fence in 0..6 {
+        let ended = command().arg(fence.to_string()).output().expect("the caller can be started");
+        if !String::from_utf8_lossy(&ended.stdout).contains("memory fence touched") {
+            println!("fence {fence} of the caller does not hold: it ended with {}", ended.status);
+            std::process::exit(1);
+        }
+    }
+}
+
+impl Cases {
+    /// Starts the caller.
+    pub fn new() -> Cases {
+        let mut process =
+            command().stdin(Stdio::piped()).stdout(Stdio::piped()).spawn().expect("the caller can be started");
+        let to = BufWriter::with_capacity(1 << 16, process.stdin.take().expect("a pipe"));
+        let answers = BufReader::new(process.stdout.take().expect("a pipe"));
+        Cases { caller: Some(Caller { process, answers }), to: Box::new(to), calls: Vec::new(), made: 0, broken: false }
+    }
+
+    /// Makes no calls.
+    pub fn none() -> Cases {
+        Cases { caller: None, to: Box::new(std::io::sink()), calls: Vec::new(), made: 0, broken: false }
+    }
+
+    fn line(&mut self, what: What, side: Side, bytes: &[u8], figures: [u32; 4], due: [u32; 4]) {
+        let head = [what as u32, u32::from(side == Side::Begin), bytes.len() as u32];
+        let mut text = [0; 44];
+        for (word, place) in head.iter().chain(&figures).chain(&due).zip(text.chunks_mut(4)) {
+            place.copy_from_slice(&word.to_le_bytes());
+        }
+        self.broken |= self.to.write_all(&text).is_err() || self.to.write_all(bytes).is_err();
+    }
+
+    pub fn input(&mut self, number: u64, side: Side, job: &[u8]) {
+        self.line(What::Input, side, job, [number as u32, (number >> 32) as u32, 0, 0], [0; 4]);
+    }
+
+    /// The plan that planning has to leave.
+    pub fn due(&mut self, plan: &[u8]) {
+        self.line(What::Due, Side::Begin, plan, [0; 4], [0; 4]);
+    }
+
+    /// The bytes that advice gets as its plan.
+    pub fn lend(&mut self, side: Side, plan: &[u8]) {
+        self.line(What::Lend, side, plan, [0; 4], [0; 4]);
+    }
+
+    pub fn call(&mut self, call: Call, due: [u32; 4]) {
+        let (what, side, figures) = match call {
+            Call::Plan { plan_len, before, side } => (What::Plan, side, [plan_len as u32, before, 0, 0]),
+            Call::Start { side } => (What::Start, side, [0; 4]),
+            Call::Follow { state, goal, action, outcome, side } => (What::Follow, side, [state, goal, action, outcome]),
+            Call::Advice { state, goal, side, .. } => (What::Advice, side, [state, goal, 0, 0]),
+        };
+        self.line(what, side, &[], figures, due);
+        self.calls.push(call);
+        self.made += 1;
+    }
+
+    /// The seconds that so many calls of planning take.
+    pub fn time(&mut self, side: Side, times: u32) -> f64 {
+        self.line(What::Time, side, &[], [times, 0, 0, 0], [0; 4]);
+        let mut text = String::new();
+        let answers = &mut self.caller.as_mut().expect("a caller").answers;
+        self.to.flush().and_then(|()| answers.read_line(&mut text)).expect("the caller answers");
+        text.trim().parse::<f64>().expect("a time") * 1e-9
+    }
+
+    /// Waits until all calls are made, and says what went wrong.
+    pub fn end(mut self) -> Option<Wrong> {
+        let mut caller = self.caller.take()?;
+        self.broken |= self.to.flush().is_err();
+        self.to = Box::new(std::io::sink());
+        let mut text = String::new();
+        caller.answers.read_to_string(&mut text).expect("the caller says words");
+        let status = caller.process.wait().expect("the caller ends");
+        if status.success() && !self.broken && text == format!("{} calls made\n", self.made) {
+            return None;
+        }
+        let mut words = text.trim().splitn(3, ' ');
+        let number = words.next().and_then(|word| word.parse().ok());
+        let call = words.next().and_then(|word| word.parse().ok());
+        let (Some(number), Some(call), Some(how)) = (number, call, words.next()) else {
+            println!("the caller ended with {status} and said: {text}");
+            std::process::exit(1)
+        };
+        Some(Wrong { number, call, how: how.to_string() })
+    }
+}
