@@ -74,6 +74,7 @@ try-inputs: tests
 try-listing: tests
 	@rt check listing >build/plan.log 2>&1 || { cat build/plan.log; exit 1; }
 	@sh tests/listing/run $(CURDIR)/build/cargo/release/cabinet-tests $(RUN) $(CURDIR)/target/bin/listing
+	@$(TESTS) listings $(RUN) target/bin/listing
 
 # More inputs: make soak N=10000000
 soak: tests

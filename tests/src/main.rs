@@ -4,6 +4,7 @@ mod bench;
 mod brute;
 mod cases;
 mod check;
+mod listings;
 mod make;
 mod oracle;
 mod random;
@@ -24,7 +25,8 @@ cabinet-tests run [SEED]           the ordinary run
 cabinet-tests soak N [SEED]        N inputs, the fixed ones first
 cabinet-tests again SEED NUMBER    one input of a run once more
 cabinet-tests bench [DATE]         times beside other planners (or the date in BENCH_DATE)
-cabinet-tests list                 the oracle's listing of the job on standard input";
+cabinet-tests list                 the oracle's listing of the job on standard input
+cabinet-tests listings WORDS       the listing program, started by these words, beside the oracle's listing";
 
 /// Tries the inputs with these numbers, prints the counts and says whether everything has come up.
 fn tried(inputs: &Inputs, seed: u64, numbers: std::ops::Range<u64>) -> bool {
@@ -82,6 +84,12 @@ fn command(words: &[String]) -> Option<()> {
             bench::bench(&given.unwrap_or_else(|| "not given".to_string()));
         }
         "list" => list(),
+        "listings" if words.len() > 1 => {
+            if !listings::agree(&words[1..], SEED) {
+                println!("but not everything that a listing can say has come up");
+                std::process::exit(1);
+            }
+        }
         _ => return None,
     }
     Some(())

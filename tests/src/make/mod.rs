@@ -40,6 +40,29 @@ pub fn middling(seed: u64) -> Vec<u8> {
     chain::job(&mut Random::new(seed, 2), size, Doubt::Somewhere).bytes()
 }
 
+/// A job whose listing has something to show: the largest plans, large numbers, high actions, or an input too long to be taken in whole.
+pub fn listed(seed: u64, number: u64) -> Vec<u8> {
+    let random = &mut Random::new(!seed, number);
+    match number % 6 {
+        0 => {
+            let moves = random.between(0, 2_000);
+            valid::job(random, Size { moves, ..FULL }).bytes()
+        }
+        1 => {
+            let (states, moves) = (random.between(33, 48), random.between(50, 200));
+            let doubt = random.pick(&[Doubt::None, Doubt::AtTheEnd, Doubt::Somewhere]);
+            chain::job(random, Size { states, actions: 16, propositions: 1, goals: 32, moves }, doubt).bytes()
+        }
+        2 => chained(random),
+        3 => {
+            let parts = sound(random);
+            wild::far(random, parts)
+        }
+        4 => spoilt(random, 1),
+        _ => any_counts(random),
+    }
+}
+
 pub struct Inputs {
     seed: u64,
     fixed: Vec<(&'static str, Vec<u8>)>,

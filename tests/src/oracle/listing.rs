@@ -3,7 +3,7 @@
 use super::{Entry, Job, Oracle, LOSING, PENDING};
 
 /// As many bytes as the listing program takes in.
-const TAKEN: usize = 16_384;
+pub const TAKEN: usize = 16_384;
 
 fn word(value: u8) -> &'static str {
     match value {

@@ -7,7 +7,7 @@ mod read;
 mod refusal;
 mod waves;
 
-pub use listing::listing;
+pub use listing::{listing, TAKEN};
 pub use plan::{entries, Entry, LOSING, PENDING, WINNING};
 pub use read::{read, Job};
 pub use refusal::*;
