@@ -1,7 +1,8 @@
 -- Where asking reads: each offset lies inside the job, and what stands there is what the job says.
-use Prim.Native.Nat.{ℕ, _+_, _*_, _^_, _≤_, _<_}
+use Prim.Native.Nat.{ℕ, _+_, _*_, _%_, _^_, _≤_, _<_}
 use mathlib.Core.List.{List}
-use mathlib.Core.Path.{_≡_}
+use mathlib.Core.Path.{_≡_, _∙_}
+use native.Mathlib.Nat.{mod-eq-of-lt}
 use native.Mathlib.Omega.{arith}
 use lib.Dec.{eqb}
 use lib.ListN.{length, getD}
@@ -17,8 +18,9 @@ module _ {b : List ℕ} {l : Layout} (f : Fit b l) where
   pub label-inside : {s : ℕ} → s < l .states → l .«labels_at» + s < length b
   label-inside h = rw (f .is-layout) (omega (arith, kept.labels-end (f .keeps), states-said f))
 
-  pub label-value : (s : ℕ) {r : ℕ} → r ≡ getD b (l .«labels_at» + s) 0 → r ≡ said b .label s
-  label-value s e = rw (f .is-layout) at e
+  -- below 2^P it has nothing to mask away
+  pub label-masked : {s r : ℕ} → s < l .states → r ≡ getD b (l .«labels_at» + s) 0 % 2 ^ l .propositions → r ≡ said b .label s
+  label-masked {s} h e = (rw (f .is-layout) at e) ∙ mod-eq-of-lt (f .keeps .label-below s (rw (states-said f) at h))
 
   -- w is how many labels there are, and x the label of state t
   module _ {q t w x : ℕ} (h : q < l .goals) (g : t < l .states) (e : w ≡ 2 ^ l .propositions) (d : x ≡ said b .label t) where

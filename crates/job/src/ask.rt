@@ -12,13 +12,13 @@ use crate::layout::Layout;
 use rules::place::Move;
 use rules::place::Place;
 
-// The label of state s.
+// The label of state s: of its byte the part that tells of the propositions, which is the whole.
 pub fn label(job: &[u8], l: Layout, s: usize) -> usize
     requires { ⌜ Fit (now job) l ⌝ }
     requires { ⌜ s < l .states ⌝ }
     ensures { λ r. ⌜ r ≡ said (now (job .entry)) .label s ⌝ }
 {
-    byte_at(job, l.labels_at + s)
+    rules::label::part_below(job[l.labels_at + s], l.propositions) as usize
 }
 
 // The goal state after entering state t from goal state q.
