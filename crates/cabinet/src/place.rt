@@ -106,7 +106,11 @@ impl Place {
         if l.goals <= q {
             return Advised::Refused(Refusal::Place);
         }
-        let e = rules::entry::read_entry(plan, s * l.goals + q);
+        let p = rules::place::Place {
+            state: s as u16,
+            goal: q as u16,
+        };
+        let e = rules::entry::read_entry(plan, p.entry_number(l.goals as u16));
         match rules::entry::shape_of(e, l.actions, places as u16) {
             Shape::Nothing => Advised::Refused(Refusal::Entry),
             Shape::Of(value) => Advised::Says {

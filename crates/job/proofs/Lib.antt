@@ -3,3 +3,4 @@ pub mod Laying
 pub mod Readings
 pub mod Asking
 pub mod Offsets
+pub mod Finding

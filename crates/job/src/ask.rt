@@ -13,7 +13,7 @@ use rules::place::Move;
 use rules::place::Place;
 
 // The label of state s: of its byte the part that tells of the propositions, which is the whole.
-pub fn label(job: &[u8], l: Layout, s: usize) -> usize
+fn label(job: &[u8], l: Layout, s: usize) -> usize
     requires { ⌜ Fit (now job) l ⌝ }
     requires { ⌜ s < l .states ⌝ }
     ensures { λ r. ⌜ r ≡ said (now (job .entry)) .label s ⌝ }
@@ -22,7 +22,7 @@ pub fn label(job: &[u8], l: Layout, s: usize) -> usize
 }
 
 // The goal state after entering state t from goal state q.
-pub fn next_goal(job: &[u8], l: Layout, q: usize, t: usize) -> usize
+fn next_goal(job: &[u8], l: Layout, q: usize, t: usize) -> usize
     requires { ⌜ Fit (now job) l ⌝ }
     requires { ⌜ q < l .goals ⌝ }
     requires { ⌜ t < l .states ⌝ }

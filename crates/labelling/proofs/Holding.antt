@@ -4,12 +4,12 @@ use mathlib.Core.Bool.{Bool, true, false, cond, not, _&&_, or-false, and-true, _
 use mathlib.Core.List.{List}
 use mathlib.Core.Logic.{⊎-elim, Iff·rfl}
 use mathlib.Core.Path.{_≡_, refl, sym, ap, _∙_, subst}
-use native.Mathlib.Nat.{div-add-mod', mod-lt}
+use native.Mathlib.Nat.{add-zero, div-add-mod', mod-lt}
 use native.Mathlib.Omega.{arith}
 use borrow.Author.Tests.{lt-ltb, le-ltb, eq-eqb, ne-eqb}
 use lib.Arith.{digits-lt, digits-div, digits-mod}
 use lib.Dec.{ltb}
-use lib.ListN.{getD}
+use lib.ListN.{length, getD}
 use Rattle.rules.specs.Sets.{member, count}
 use Rattle.rules.specs.Game.{Inside, Lawful, says}
 use Rattle.rules.specs.Job.{Job, place, places, entry-number, arena, some-below}
@@ -30,7 +30,7 @@ use Rattle.labelling.specs.declared.scan.Phase.{Phase}
 use Rattle.labelling.specs.Scan.{in-set, wanted, phase-value}
 use Rattle.labelling.specs.Pass.{place-at, Pass}
 use Rattle.labelling.specs.Round.{Passed, BegunAll}
-use Rattle.labelling.specs.Rounds.{reached, written, Holds}
+use Rattle.labelling.specs.Rounds.{reached, written, Holds, NonePast}
 use Rattle.labelling.proofs.Passes.{between-zero}
 use Rattle.labelling.proofs.Agree.{some-wanted-ext, lowest-wanted-ext, reached-up}
 
@@ -83,10 +83,43 @@ module _ {j : Job} {f : Place → Bool} {e : Place → Entry} {before ws plan : 
   pub holds-rest : (y : ℕ) → room j ≤ y → getD plan y 0 ≡ getD before y 0
   holds-rest y l = h .bytes y ∙ rw (le-ltb (y / 4) (places j) (omega arith))
 
+  pub holds-none-past : NonePast j ws
+  holds-none-past x l = h .members x ∙ rw (le-ltb x (places j) l)
+
   -- a phase begins: none of its rounds yet
   pub holds-zero : (v : Phase) → Holds j (reached v (arena j) f zero) (written v (arena j) f e zero) before ws plan
   unfolding reached written
   holds-zero v = h
+
+-- a set of the job's places and a plan hold what they say themselves
+entry-bytes : (plan : List ℕ) → ((y : ℕ) → getD plan y 0 < 256) → (d i y : ℕ) → d < 4 → y ≡ 4 * i + d
+    → getD plan y 0 ≡ entry-byte (entry plan i) d
+entry-bytes plan small zero i y h e = rw (e ∙ add-zero (4 * i))
+entry-bytes plan small (suc zero) i y h e = rw e
+entry-bytes plan small (suc (suc zero)) i y h e = rw e (omega (arith, small (4 * i + 2)))
+entry-bytes plan small (suc (suc (suc zero))) i y h e =
+    let at : 4 * i + 3 ≡ 4 * i + 2 + 1 = omega arith in
+    rw (e, at) (omega (arith, small (4 * i + 2)))
+entry-bytes plan small (suc (suc (suc (suc d)))) i y h e = absurd (omega arith)
+
+pub holds-itself : (j : Job) {ws plan : List ℕ} → length ws ≡ 64 → ((y : ℕ) → getD plan y 0 < 256) → NonePast j ws
+    → Holds j (in-set (j .goals) ws) (λ p. entry plan (entry-number (j .goals) p)) plan ws plan
+holds-itself j {ws} {plan} words small none =
+    record {
+      words = words;
+      as-long = refl;
+      members =
+          λ x. ⊎-elim
+          (λ (l : x < places j). rw (lt-ltb x (places j) l, place-number (j .goals) x))
+          (λ (l : places j ≤ x). rw (le-ltb x (places j) l) (none x l))
+          (below-or x (places j));
+      bytes =
+          λ y. ⊎-elim
+          (λ (l : y / 4 < places j). rw (lt-ltb (y / 4) (places j) l, place-number (j .goals) (y / 4))
+          (entry-bytes plan small (y % 4) (y / 4) y (omega arith) (omega arith)))
+          (λ (l : places j ≤ y / 4). rw (le-ltb (y / 4) (places j) l))
+          (below-or (y / 4) (places j));
+    }
 
 -- ---- one round more
 

@@ -60,12 +60,12 @@ module _ {b : List ℕ} {l : Layout} {s start end q : ℕ} {ws plan : List ℕ} 
   pub here-few : here < 4096
   here-few = omega (arith, digits-lt (r .state) g, few-places (r .fit))
 
-  pub here-room : 4 * here + 4 ≤ length plan
-  here-room = omega (arith, digits-lt (r .state) g, r .room)
+  pub here-room : {i : ℕ} → i ≡ here → 4 * i + 4 ≤ length plan
+  here-room n = omega (arith, n, digits-lt (r .state) g, r .room)
 
-  -- what was answered of it is whether the set has it
-  pub here-known : (old : List ℕ) {a t : Bool} → a ≡ (ltb here 4096 && member old here) → a ≡ t → member old here ≡ t
-  here-known old e d = sym (rw (lt-ltb here 4096 here-few) at e) ∙ d
+  -- what was answered of it, by its number i, is whether the set has it
+  pub here-known : {i : ℕ} → i ≡ here → (old : List ℕ) {a t : Bool} → a ≡ (ltb i 4096 && member old i) → a ≡ t → member old here ≡ t
+  here-known n old e d = sym (rw (n, lt-ltb here 4096 here-few) at e) ∙ d
 
   module _ (v : Phase) (n : ℕ) (old : List ℕ) where
     -- it is in the old set
@@ -87,9 +87,9 @@ module _ {b : List ℕ} {l : Layout} {s start end q : ℕ} {ws plan : List ℕ} 
           let z : adds b l v n old here ≡ false = rw (digits-div s g, digits-mod s g, t) (and-false (not (member old here))) in
           pass-skip z z
 
-      pub passed-new : {a y : ℕ} {ws1 plan1 : List ℕ} → member old here ≡ false → d ≡ LowestAction.Is a
-          → Put ws here ws1 → y ≡ phase-value v → Wrote here (says y a n) plan plan1 → Passed b l v n old here (here + 1) ws plan ws1 plan1
-      passed-new m e p y w =
+      pub passed-new : {i a y : ℕ} {ws1 plan1 : List ℕ} → i ≡ here → member old here ≡ false → d ≡ LowestAction.Is a
+          → Put ws i ws1 → y ≡ phase-value v → Wrote i (says y a n) plan plan1 → Passed b l v n old here (here + 1) ws plan ws1 plan1
+      passed-new i m e p y w =
           let t = rw e at (lowest-here k d c) in
           let z : adds b l v n old here ≡ true = rw (m, digits-div s g, digits-mod s g) (t .0) in
-          pass-put z z here-few p (rw (digits-div s g, digits-mod s g, t .1, ← y) w)
+          pass-put z z here-few (rw i at p) (rw (digits-div s g, digits-mod s g, t .1, ← y) (rw i at w))

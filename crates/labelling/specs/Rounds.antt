@@ -51,7 +51,12 @@ pub record Settled (j : Job) (v : Phase) (f : Place → Bool) (e : Place → Ent
   pub more : r .over ≡ true → (k : ℕ) × (suc k ≡ places j)
       × ((p : Place) × Inside (arena j) p × (reached v (arena j) f k p ≡ false) × (reached v (arena j) f (suc k) p ≡ true))
 
--- whatever the words and the plan held before the rounds of a phase, those leave it settled
+-- a set has no place from S·Q on
+abbrev pub NonePast : Job → List ℕ → Type 0
+NonePast j ws = (x : ℕ) → places j ≤ x → member ws x ≡ false
+
+-- Whatever the words and the plan held before the rounds of a phase, those leave it settled. They always hold something: `holds-itself` of
+-- proofs/Holding.antt.
 abbrev pub Settles : Job → Phase → (ws plan : List ℕ) → Rounds → (plan′ : List ℕ) → Type 0
 Settles j v ws plan r plan′ =
     (f : Place → Bool) (e : Place → Entry) (before : List ℕ) → Holds j f e before ws plan → Settled j v f e before r plan′

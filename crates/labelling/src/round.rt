@@ -9,6 +9,7 @@ use crate::scan::Phase;
 use job::layout::Layout;
 use rules::actions::LowestAction;
 use rules::entry::Entry;
+use rules::place::Place;
 use rules::places::PlaceSet;
 
 // The value that a phase's places have, in a plan.
@@ -40,7 +41,11 @@ fn label_place(
     ensures { λ _. ⌜ Passed (now (job .entry)) l phase number (now (old .entry)) (s * l .goals + q) (s * l .goals + q + 1)
         (now (new .entry)) (now (plan .entry)) (now (new .exit)) (now (plan .exit)) ⌝ }
 {
-    let i = s * l.goals + q;
+    let p = Place {
+        state: s as u16,
+        goal: q as u16,
+    };
+    let i = p.entry_number(l.goals as u16);
     if rules::places::has_place(old, i) {
         return;
     }

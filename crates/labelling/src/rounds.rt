@@ -3,7 +3,7 @@ ghost use Prim.Native.Nat.{_*_, _≤_};
 ghost use lib.ListN.{length};
 ghost use Rattle.rules.specs.Bytes.{said};
 ghost use Rattle.job.specs.Layout.{Fit};
-ghost use Rattle.labelling.specs.Rounds.{Settles, Labelled};
+ghost use Rattle.labelling.specs.Rounds.{NonePast, Settles, Labelled};
 use crate::scan::Phase;
 use job::layout::Layout;
 use rules::places::PlaceSet;
@@ -14,10 +14,11 @@ pub struct Rounds {
     pub over: bool,
 }
 
-// Rounds of the phase, from the set on.
+// Rounds of the phase, from the set on, which has no place but the job's.
 pub fn all_rounds(plan: &mut [u8], job: &[u8], l: Layout, set: PlaceSet, phase: Phase) -> Rounds
     requires { ⌜ Fit (now job) l ⌝ }
     requires { ⌜ 4 * (l .states * l .goals) ≤ length (now plan) ⌝ }
+    requires { ⌜ NonePast (said (now job)) (set .words) ⌝ }
     ensures { λ r. ⌜ Settles (said (now (job .entry))) phase (set .words) (now (plan .entry)) r (now (plan .exit)) ⌝ }
 {
     let n = l.states * l.goals;

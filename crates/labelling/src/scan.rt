@@ -47,8 +47,8 @@ fn is_inside(job: &[u8], l: Layout, words: &[u64; 64], q: usize, t: usize) -> bo
     requires { ⌜ t < l .states ⌝ }
     ensures { λ r. ⌜ r ≡ in-set (l .goals) (now (words .entry)) (entered (said (now (job .entry))) q t) ⌝ }
 {
-    let g = job::ask::next_goal(job, l, q, t);
-    rules::places::has_place(words, t * l.goals + g)
+    let p = job::ask::place_entered(job, l, q, t);
+    rules::places::has_place(words, p.entry_number(l.goals as u16))
 }
 
 // The tally with one record more: its action is open, and held or spoilt by its outcome.

@@ -62,6 +62,9 @@ value-back Value.Losing = refl
 value-back Value.Pending = refl
 value-back Value.Winning = refl
 
+pub value-known : (v w : Value) → value-number v ≡ value-number w → v ≡ w
+value-known = known-by value-number value-of value-back
+
 abbrev pub by-refusal : {A : Type 0} → ℕ → A → (Refusal → A) → A
 by-refusal zero done refused = done
 by-refusal (suc n) done refused = refused (refusal-of (suc n))

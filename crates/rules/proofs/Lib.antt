@@ -26,3 +26,4 @@ pub mod LowestBit
 pub mod Members
 pub mod Sizes
 pub mod Entries
+pub mod Determined

@@ -4,11 +4,13 @@ use mathlib.Core.Bool.{false, _||_}
 use mathlib.Core.List.{List}
 use mathlib.Core.Logic.{⊎-elim}
 use Prim.Native.Nat.{ℕ, zero, suc, _*_, _/_, _%_, _^_, _<_, _≤_}
+use native.Mathlib.Nat.{mod-lt}
 use native.Mathlib.Omega.{arith}
 use borrow.Author.Tests.{eq-eqb, ne-eqb, lt-ltb, le-ltb}
-use lib.Bits.{bitOr}
+use lib.Bits.{bitOr, or-lt}
 use lib.Dec.{eqb}
 use lib.ListN.{getD, set, length, replicate, length-set, List·getD-eq-default}
+use lib.Pow.{pow-pos}
 use lib.Seq.{getD-set-same, getD-set-other}
 use Rattle.rules.specs.Sets.{member, Put}
 use Rattle.rules.proofs.Bits.{same-or, bit-or, bit-pow, bit-none, one-shl}
@@ -57,8 +59,19 @@ pub put-more : (ws : List ℕ) (i : ℕ) → length ws ≡ 64 → i < 4096
 put-more ws i n h =
     record {
       as-long = length-set ws (i / 64) (bitOr (1 * 2 ^ (i % 64) % 2 ^ 64) (getD ws (i / 64) 0));
+      in-bits =
+          λ small k. ⊎-elim
+          (λ (e : k ≡ i / 64). rw (e, getD-set-same ws (i / 64) word 0 (omega arith)) (fits (small (i / 64))))
+          (λ (e : k ≡ i / 64 → ⊥). rw (getD-set-other ws (i / 64) k word 0 e) (small k))
+          (same-or k (i / 64));
       members = λ j. rw (one-shl (i % 64) 64 (omega arith), lt-ltb i 4096 h) (member-with ws i j (omega arith));
     }
+  where
+    word : ℕ
+    word = bitOr (1 * 2 ^ (i % 64) % 2 ^ 64) (getD ws (i / 64) 0)
+
+    fits : getD ws (i / 64) 0 < 2 ^ 64 → word < 2 ^ 64
+    fits = or-lt 64 (1 * 2 ^ (i % 64) % 2 ^ 64) (getD ws (i / 64) 0) (mod-lt (1 * 2 ^ (i % 64)) (pow-pos 64))
 
 pub put-same : (ws : List ℕ) (i : ℕ) → 4096 ≤ i → Put ws i ws
-put-same ws i h = record { as-long = refl; members = λ j. rw (le-ltb i 4096 h) }
+put-same ws i h = record { as-long = refl; in-bits = λ small. small; members = λ j. rw (le-ltb i 4096 h) }

@@ -1,5 +1,5 @@
 -- Sets as bits: propositions in a label byte, actions in 16 bits, places in words of 64.
-use Prim.Native.Nat.{ℕ, zero, suc, _+_, _/_, _%_, _^_}
+use Prim.Native.Nat.{ℕ, zero, suc, _+_, _/_, _%_, _^_, _<_}
 use mathlib.Core.Bool.{Bool, true, false, _&&_, _||_}
 use mathlib.Core.List.{List}
 use mathlib.Core.Path.{_≡_}
@@ -23,7 +23,8 @@ unfoldable pub count : (ℕ → Bool) → ℕ → ℕ
 count f zero = 0
 count f (suc n) = count f n + one (f n)
 
--- the words after are those before with the place i, where a set has room for it
+-- the words after are those before with the place i, where a set has room for it, and no word outgrows its 64 bits
 pub record Put (before : List ℕ) (i : ℕ) (after : List ℕ) : Type 0 where
   pub as-long : length after ≡ length before
+  pub in-bits : ((k : ℕ) → getD before k 0 < 2 ^ 64) → (k : ℕ) → getD after k 0 < 2 ^ 64
   pub members : (j : ℕ) → member after j ≡ (ltb i 4096 && eqb j i || member before j)

@@ -22,16 +22,6 @@ impl ActionSet {
         ActionSet { bits: 0 }
     }
 
-    pub fn has(self, a: u8) -> bool
-        ensures { λ r. ⌜ r ≡ bit (self .bits) a ⌝ }
-    {
-        if a < 16 {
-            (self.bits >> a) % 2 == 1
-        } else {
-            false
-        }
-    }
-
     // The set with a; a set has no room for an a of 16 or more, and stays as it is.
     pub fn with(self, a: u8) -> ActionSet
         ensures { λ r. ⌜ ((k : ℕ) → bit (r .bits) k ≡ (ltb a 16 && eqb k a || bit (self .bits) k)) ⌝ }

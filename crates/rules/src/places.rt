@@ -17,27 +17,6 @@ impl PlaceSet {
         PlaceSet { words: [0u64; 64] }
     }
 
-    pub fn has(self, i: usize) -> bool
-        ensures { λ r. ⌜ r ≡ member (self .words) i ⌝ }
-    {
-        if i < 4096 {
-            (self.words[i / 64] >> (i % 64)) % 2 == 1
-        } else {
-            false
-        }
-    }
-
-    // The set with i; a set has no room for an i of 4096 or more, and stays as it is.
-    pub fn with(mut self, i: usize) -> PlaceSet
-        ensures { λ r. ⌜ ((j : ℕ) → member (r .words) j ≡ (ltb i 4096 && eqb j i || member (self .words) j)) ⌝ }
-    {
-        if i < 4096 {
-            let w = i / 64;
-            self.words[w] = (1 << (i % 64)) | self.words[w];
-        }
-        self
-    }
-
     // How many places the set has.
     pub fn size(self) -> usize
         ensures { λ r. ⌜ r ≡ count (member (self .words)) 4096 ⌝ }

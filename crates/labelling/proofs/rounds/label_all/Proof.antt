@@ -1,6 +1,7 @@
 -- `label_all` meets its contract: round 0, the rounds of winning, and the rounds of hope.
+use native.Mathlib.Omega.{arith}
 use borrow.Author.Needs.{needs}
-use Rattle.labelling.proofs.Holding.{holds-begin}
+use Rattle.labelling.proofs.Holding.{holds-begin, holds-none-past}
 use Rattle.labelling.proofs.Settling.{labelled-over, labelled-both}
 use Rattle.labelling.proofs.rounds.label_all.Statement.{statement}
 use Rattle.labelling.proofs.rounds.label_all.Tie as tie
@@ -9,7 +10,11 @@ begin-requires : tie.Need-begin-requires
 begin-requires c κs = search needs
 
 all-rounds-requires : tie.Need-all-rounds-requires
-all-rounds-requires c κs = search needs
+all-rounds-requires c κs =
+    let g = c .before .before .before in
+    let t = g .before .before .before .before .pre in
+    let h = holds-begin (t .0) (g .begin .ensures) in
+    (t .0, (omega (arith, t .1, h .as-long), holds-none-past h))
 
 same-length : tie.Need-same-length
 same-length c = search needs
@@ -22,7 +27,12 @@ returns c =
     (holds-begin t (c .before .before .before .before .before .before .before .begin .ensures))) (c .if1 .taken)
 
 all-rounds-requires-2 : tie.Need-all-rounds-requires-2
-all-rounds-requires-2 c κs = search needs
+all-rounds-requires-2 c κs =
+    let r = c .before .before .before .before .before in
+    let g = r .before .before .before .before in
+    let t = g .before .before .before .before .pre in
+    let w = r .all-rounds .ensures _ _ _ (holds-begin (t .0) (g .begin .ensures)) in
+    (t .0, (omega (arith, t .1, w .holds .as-long), holds-none-past (w .holds)))
 
 same-length-2 : tie.Need-same-length-2
 same-length-2 c = search needs

@@ -1,11 +1,20 @@
 -- `Place::advice_read` meets its contract: the plan's length is judged, then the place, then the entry's shape.
+use Prim.Native.Nat.{ℕ}
+use mathlib.Core.List.{List}
+use mathlib.Core.Path.{_≡_}
 use native.Mathlib.Omega.{arith}
 use borrow.Author.Needs.{needs}
 use lib.Arith.{digits-lt}
-use Rattle.job.proofs.Asking.{few-places}
+use Rattle.rules.specs.Plan.{entry}
+use Rattle.rules.specs.declared.entry.Entry.{Entry}
+use Rattle.job.proofs.Asking.{few-states, few-goals, few-places}
 use Rattle.cabinet.proofs.Answering.{no-state, no-goal, is-one, advice-short, advice-no-place, advice-shapeless, advice-says}
 use Rattle.cabinet.proofs.place.Place.advice_read.Statement.{statement}
 use Rattle.cabinet.proofs.place.Place.advice_read.Tie as tie
+
+-- the entry that is read is the place's
+there : (p : List ℕ) (i n : ℕ) (e : Entry) → i ≡ n → e ≡ entry p i → e ≡ entry p n
+there p i n e m q = rw m at q
 
 cast-s : tie.Need-cast-s
 cast-s c = search needs
@@ -39,26 +48,33 @@ returns-3 c =
     advice-no-place (z .pre) (z .args .plan .now) (z .args .self .state) (z .args .self .goal) (n .if1 .left)
     (no-goal (z .pre) _ _ (c .before .before .if2 .left) (c .if3 .taken))
 
-mul-read-entry : tie.Need-mul-read-entry
-mul-read-entry c =
-    let d = c .before in
+cast-shape-of : tie.Need-cast-shape-of
+cast-shape-of d =
     let z = d .before .before .before .before .before .before .before .before .before .before in
-    omega (arith, few-places (z .pre), digits-lt (d .before .before .if2 .left) (d .if3 .left))
+    omega (arith, d .before .before .if2 .left, few-states (z .pre), d .if3 .left, few-goals (z .pre))
 
-add-read-entry : tie.Need-add-read-entry
-add-read-entry c =
-    let d = c .before in
+cast-entry-number : tie.Need-cast-entry-number
+cast-entry-number d =
     let z = d .before .before .before .before .before .before .before .before .before .before in
-    omega (arith, few-places (z .pre), digits-lt (d .before .before .if2 .left) (d .if3 .left))
+    omega (arith, d .before .before .if2 .left, few-states (z .pre), d .if3 .left, few-goals (z .pre))
+
+cast-entry-number-2 : tie.Need-cast-entry-number-2
+cast-entry-number-2 c =
+    let z = c .before .before .before .before .before .before .before .before .before .before .before in
+    omega (arith, few-states (z .pre), few-goals (z .pre))
+
+entry-number-requires : tie.Need-entry-number-requires
+entry-number-requires c κs = search needs
 
 read-entry-requires : tie.Need-read-entry-requires
 read-entry-requires c κs =
-    let d = c .before in
-    omega (arith, digits-lt (d .before .before .if2 .left) (d .if3 .left))
-
-cast-shape-of : tie.Need-cast-shape-of
-cast-shape-of c =
     let d = c .before .before in
+    let n = d .before .before .before .before in
+    omega (arith, c .entry-number .ensures, digits-lt (d .before .before .if2 .left) (d .if3 .left), n .if1 .left)
+
+cast-shape-of-2 : tie.Need-cast-shape-of-2
+cast-shape-of-2 c =
+    let d = c .before .before .before in
     omega (arith, few-places (d .before .before .before .before .before .before .before .before .before .before .pre))
 
 shape-of-requires : tie.Need-shape-of-requires
@@ -73,21 +89,23 @@ enum-known-value c = search needs
 returns-4 : tie.Need-returns-4
 returns-4 c =
     let r = c .before .before .before in
-    let d = r .before .before in
+    let d = r .before .before .before in
     let n = d .before .before .before .before in
     let z = n .before .before .before .before .before .before in
     advice-shapeless (z .pre) (z .args .plan .now) (z .args .self .state) (z .args .self .goal) (n .if1 .left)
-    (is-one (z .pre) _ _ (d .before .before .if2 .left) (d .if3 .left)) (r .read-entry .ensures)
+    (is-one (z .pre) _ _ (d .before .before .if2 .left) (d .if3 .left))
+    (there (z .args .plan .now) _ _ _ (r .before .entry-number .ensures) (r .read-entry .ensures))
     (c .enum-told .given .1) (c .before .before .shape-of .ensures)
 
 returns-5 : tie.Need-returns-5
 returns-5 c =
     let r = c .before .before .before .before in
-    let d = r .before .before in
+    let d = r .before .before .before in
     let n = d .before .before .before .before in
     let z = n .before .before .before .before .before .before in
     advice-says (z .pre) (z .args .plan .now) (z .args .self .state) (z .args .self .goal) (n .if1 .left)
-    (is-one (z .pre) _ _ (d .before .before .if2 .left) (d .if3 .left)) (r .read-entry .ensures)
+    (is-one (z .pre) _ _ (d .before .before .if2 .left) (d .if3 .left))
+    (there (z .args .plan .now) _ _ _ (r .before .entry-number .ensures) (r .read-entry .ensures))
     (c .before .value .given .1) (c .before .before .before .shape-of .ensures)
 
 pub advice-read-spec : {M : Type 1} → statement M
@@ -101,10 +119,12 @@ advice-read-spec =
     returns
     returns-2
     returns-3
-    mul-read-entry
-    add-read-entry
-    read-entry-requires
     cast-shape-of
+    cast-entry-number
+    cast-entry-number-2
+    entry-number-requires
+    read-entry-requires
+    cast-shape-of-2
     shape-of-requires
     enum-told
     enum-known-value
