@@ -4,3 +4,4 @@ pub mod Starting
 pub mod Unique
 pub mod Demands
 pub mod Advising
+pub mod Ranges

@@ -13,10 +13,11 @@ use Rattle.rules.specs.Job.{Job, place, entered, start, recorded, arena}
 use Rattle.rules.specs.Bytes.{refusal, said}
 use Rattle.rules.specs.Keeps.{Keeps}
 use Rattle.rules.specs.Answers.{MovedFigures}
+use Rattle.rules.specs.declared.place.Place.{Place}
 use Rattle.rules.specs.Calls.{refused-move, moved-to, started, is-place, followed}
 use Rattle.rules.proofs.Tests.{and-iff, ltb-iff}
 use Rattle.rules.proofs.Kept.{kept}
-use Rattle.rules.proofs.Arenas.{is-record-iff, recorded-iff, leads-iff, entered-inside, start-inside}
+use Rattle.rules.proofs.Arenas.{inside-iff, is-record-iff, recorded-iff, leads-iff, entered-inside, start-inside}
 
 -- P holds of an answer that is not refused
 abbrev pub When : (MovedFigures → Type 0) → MovedFigures → Type 0
@@ -74,7 +75,18 @@ module _ (b : List ℕ) (s q a t : ℕ) where
       let (from, to) = is-record-iff (said b .move i) s a t .0 m in
       leads-iff (said b) (place s q) (entered (said b) q t) a .1 (i, l, from, ap (entered (said b) q) (sym to)))
 
-  -- and every move of the game from a place is one that can be followed
-  pub listed-followed : Keeps b → is-place (said b) s q ≡ true → recorded (said b) s a t ≡ true
+  -- a record that is there can be followed
+  pub recorded-followed : Keeps b → is-place (said b) s q ≡ true → recorded (said b) s a t ≡ true
       → followed b s q a t ≡ moved-to (entered (said b) q t)
-  listed-followed k p r = rw (eq-eqb (refusal b) 0 (kept b .1 k), p, r)
+  recorded-followed k p r = rw (eq-eqb (refusal b) 0 (kept b .1 k), p, r)
+
+-- and every move of the game from a place is one that can be followed
+pub listed-followed : (b : List ℕ) (s q a : ℕ) (p : Place) → Keeps b → Inside (arena (said b)) (place s q)
+    → Listed (arena (said b)) (place s q) a p → followed b s q a (p .state) ≡ moved-to p
+listed-followed b s q a p k i m =
+    let j = said b in
+    let (n, l, from, to) = leads-iff j (place s q) p a .0 m in
+    let o = j .move n .outcome in
+    let known : recorded j s a o ≡ true = recorded-iff j s a o .1 (n, l, is-record-iff (j .move n) s a o .1 (from, refl)) in
+    let at : is-place j s q ≡ true = and-iff (ltb-iff s (j .states)) (ltb-iff q (j .goals)) .1 (inside-iff j (place s q) .0 i) in
+    rw to (recorded-followed b s q a o k at known)
