@@ -1,4 +1,4 @@
-// The moves of One plate, a line for each: its state, action and outcome.
+// The moves of One plate, a line for each: its state, action and outcome; and that there are no more.
 use reader::Handed;
 use rules::place::Move;
 
@@ -6,7 +6,7 @@ fn write(text: &[u8]) {
     io::write_all(libc::STDOUT_FILENO, text);
 }
 
-fn show(m: Move) {
+fn show_move(m: Move) {
     io::print_decimal(libc::STDOUT_FILENO, m.state as u64);
     write(b" ");
     io::print_decimal(libc::STDOUT_FILENO, m.action as u64);
@@ -15,20 +15,24 @@ fn show(m: Move) {
     write(b"\n");
 }
 
-// The first move comes from a reader, and the others by their number. A job has at most 4,096.
-fn show_all(job: &[u8]) {
-    let Handed::Record(m) = reader::first_move(job) else {
-        return;
-    };
-    show(m);
-    let mut k: usize = 1;
-    while k < 4096 {
-        let Handed::Record(m) = reader::nth_move(job, k) else {
-            return;
-        };
-        show(m);
-        k += 1;
+// What a call of the reader handed out.
+fn show(h: Handed) {
+    match h {
+        Handed::Record(m) => show_move(m),
+        Handed::NoMore => write(b"no more\n"),
     }
+}
+
+// Seven calls of one reader, for a job of six moves.
+fn show_all(job: &[u8]) {
+    let mut r = reader::open_moves(job);
+    show(reader::next_move(&mut r));
+    show(reader::next_move(&mut r));
+    show(reader::next_move(&mut r));
+    show(reader::next_move(&mut r));
+    show(reader::next_move(&mut r));
+    show(reader::next_move(&mut r));
+    show(reader::next_move(&mut r));
 }
 
 fn main() {

@@ -9,6 +9,7 @@ use denote.Ref.{RefT, now}
 use Rattle.rules.specs.Job.{upto}
 use Rattle.rules.specs.Bytes.{refusal, said}
 use Rattle.rules.specs.Examples.{plate}
+use Rattle.rules.proofs.Bits.{below-or}
 use Rattle.rules.proofs.Numbers.{refusal-range}
 use Rattle.reader.specs.Handed.{moves-in, handed, cursor, opened, hands, after}
 use Rattle.reader.specs.declared.Handed.{Handed}
@@ -65,6 +66,14 @@ module _ (s : RefT (List ℕ)) where
 
   past-all : (k : ℕ) → moves-in b ≤ k → call k ≡ Handed.NoMore
   past-all k h = call-is k ∙ ap (handed b) (counts-no-more k h) ∙ hands-no-more b (moves-in b) (omega arith)
+
+  -- whether there is such a record or not
+  pub calls-handed : (k : ℕ) → call k ≡ handed b k
+  calls-handed k =
+      ⊎-elim
+      (λ (h : k < moves-in b). call-is k ∙ ap (handed b) (counts k (omega (arith, h))))
+      (λ (h : moves-in b ≤ k). past-all k h ∙ sym (hands-no-more b k h))
+      (below-or k (moves-in b))
 
   pub kth : (k : ℕ) → refusal b ≡ 0 → k < said b .records → call k ≡ Handed.Record (said b .move k)
   kth k read h =
