@@ -7,7 +7,7 @@ use mathlib.Core.Path.{_≡_, refl}
 use borrow.Author.Tests.{eq-eqb, ne-eqb, lt-ltb, le-ltb}
 use lib.Dec.{ltb, eqb}
 use lib.ListN.{length}
-use Rattle.rules.specs.Game.{Inside, Way, Follows, Right}
+use Rattle.rules.specs.Game.{Play, last, Inside, Way, run, Obeys, Follows, Right}
 use Rattle.rules.specs.Job.{place, places, entry-number, entered, start, recorded, arena}
 use Rattle.rules.specs.Bytes.{refusal, said}
 use Rattle.rules.specs.Keeps.{Keeps}
@@ -19,7 +19,8 @@ use Rattle.rules.specs.Demands.{ValueTold, WinningKept, PendingKept}
 use Rattle.rules.specs.declared.place.Place.{Place}
 use Rattle.rules.proofs.Kept.{kept}
 use Rattle.rules.proofs.Unique.{no-overrun}
-use Rattle.labelling.proofs.Demands.{entry-of, planned-exactly, planned-right, values-told, followable, followed-wins, followed-hopes}
+use Rattle.labelling.proofs.Demands.{entry-of, planned-exactly, planned-right, values-told, followable, followed-on}
+use Rattle.labelling.proofs.Demands.{followed-wins, followed-hopes}
 
 -- ---- 1. Bad input is refused by number, first fault first, and a refusal changes nothing.
 
@@ -88,13 +89,21 @@ module _ {b before after : List ℕ} (done : Planning b before 0 after) where
   pub demand-3-values : (p : Place) → Inside (arena (said b)) p → ValueTold (arena (said b)) p (entry-of b after p)
   demand-3-values = values-told done
 
-  pub demand-3-ways : (σ : Way (arena (said b))) × Follows (arena (said b)) (entry-of b after) σ
+  pub demand-3-ways : (h : Play Place) → Inside (arena (said b)) (last h) → (σ : Way (arena (said b)))
+      × Follows (arena (said b)) (entry-of b after) σ h
   demand-3-ways = followable done
 
-  module _ (σ : Way (arena (said b))) (follows : Follows (arena (said b)) (entry-of b after) σ) (p : Place)
-      (i : Inside (arena (said b)) p) where
-    pub demand-3-winning : entry-of b after p .value ≡ 2 → WinningKept (arena (said b)) (entry-of b after) σ p
-    demand-3-winning = followed-wins done σ follows p i
+  -- after any play h, for whoever follows the plan from there on; `demand-3-on`: in mid-run it is followed still, so that all of this holds
+  -- there too
+  module _ (σ : Way (arena (said b))) (h : Play Place) (follows : Follows (arena (said b)) (entry-of b after) σ h)
+      (i : Inside (arena (said b)) (last h)) where
+    pub demand-3-on : (o : ℕ → Place) → Obeys (arena (said b)) σ o h → (n : ℕ)
+        → Follows (arena (said b)) (entry-of b after) σ (run (arena (said b)) σ o h n)
+        × Inside (arena (said b)) (last (run (arena (said b)) σ o h n))
+    demand-3-on = followed-on done σ h follows i
 
-    pub demand-3-pending : entry-of b after p .value ≡ 1 → PendingKept (arena (said b)) (entry-of b after) σ p
-    demand-3-pending = followed-hopes done σ follows p i
+    pub demand-3-winning : entry-of b after (last h) .value ≡ 2 → WinningKept (arena (said b)) (entry-of b after) σ h
+    demand-3-winning = followed-wins done σ h follows i
+
+    pub demand-3-pending : entry-of b after (last h) .value ≡ 1 → PendingKept (arena (said b)) (entry-of b after) σ h
+    demand-3-pending = followed-hopes done σ h follows i

@@ -6,7 +6,7 @@ use mathlib.Core.Path.{_≡_, refl}
 use native.Mathlib.Omega.{arith}
 use lib.Arith.{digits-lt}
 use lib.ListN.{length, drop, List·getD-append}
-use Rattle.rules.specs.Game.{Inside, Way, Follows, Right}
+use Rattle.rules.specs.Game.{Play, last, Inside, Way, run, Obeys, Follows, Right}
 use Rattle.rules.specs.Job.{places, entry-number, arena}
 use Rattle.rules.specs.Bytes.{said}
 use Rattle.rules.specs.Keeps.{Keeps}
@@ -18,7 +18,8 @@ use Rattle.rules.specs.declared.entry.Entry.{Entry}
 use Rattle.rules.proofs.Kept.{kept}
 use Rattle.rules.proofs.Arenas.{inside-iff, arena-lawful}
 use Rattle.rules.proofs.Unique.{no-overrun}
-use Rattle.rules.proofs.Following.{follow, follow-follows}
+use Rattle.rules.proofs.Hopes.{run-inside}
+use Rattle.rules.proofs.Following.{follow, follow-follows, follows-on}
 use Rattle.rules.proofs.Demands.{value-told, winning-kept, pending-kept}
 
 -- what a buffer says of a place
@@ -65,17 +66,27 @@ module _ {b before after : List ℕ} (done : Planning b before 0 after) where
   few : said b .actions ≤ 255
   few = let h = keeps .few-actions in omega arith
 
-  -- A plan can be followed; and whoever follows it keeps the third demand.
-  pub followable : (σ : Way (arena (said b))) × Follows (arena (said b)) (entry-of b after) σ
-  followable = (
+  -- A plan can be followed from every place; and whoever follows it, after any play, keeps the third demand.
+  pub followable : (h : Play Place) → Inside (arena (said b)) (last h) → (σ : Way (arena (said b)))
+      × Follows (arena (said b)) (entry-of b after) σ h
+  followable h i = (
     follow (arena (said b)) (entry-of b after),
-    follow-follows (arena (said b)) (arena-lawful b keeps) few (entry-of b after) (planned-right done refl),
+    follow-follows (arena (said b)) (arena-lawful b keeps) few (entry-of b after) (planned-right done refl) h i,
   )
 
-  module _ (σ : Way (arena (said b))) (follows : Follows (arena (said b)) (entry-of b after) σ) (p : Place)
-      (i : Inside (arena (said b)) p) where
-    pub followed-wins : entry-of b after p .value ≡ 2 → WinningKept (arena (said b)) (entry-of b after) σ p
-    followed-wins = winning-kept (arena (said b)) (arena-lawful b keeps) few (entry-of b after) (planned-right done refl) σ follows p i
+  module _ (σ : Way (arena (said b))) (h : Play Place) (follows : Follows (arena (said b)) (entry-of b after) σ h)
+      (i : Inside (arena (said b)) (last h)) where
+    -- in mid-run it is followed still
+    pub followed-on : (o : ℕ → Place) → Obeys (arena (said b)) σ o h → (n : ℕ)
+        → Follows (arena (said b)) (entry-of b after) σ (run (arena (said b)) σ o h n)
+        × Inside (arena (said b)) (last (run (arena (said b)) σ o h n))
+    followed-on o obeys n = (
+      follows-on (arena (said b)) (entry-of b after) σ n h o obeys follows,
+      run-inside (arena (said b)) (arena-lawful b keeps) σ n h o i obeys,
+    )
 
-    pub followed-hopes : entry-of b after p .value ≡ 1 → PendingKept (arena (said b)) (entry-of b after) σ p
-    followed-hopes = pending-kept (arena (said b)) (arena-lawful b keeps) few (entry-of b after) (planned-right done refl) σ follows p i
+    pub followed-wins : entry-of b after (last h) .value ≡ 2 → WinningKept (arena (said b)) (entry-of b after) σ h
+    followed-wins = winning-kept (arena (said b)) (arena-lawful b keeps) few (entry-of b after) (planned-right done refl) σ h follows i
+
+    pub followed-hopes : entry-of b after (last h) .value ≡ 1 → PendingKept (arena (said b)) (entry-of b after) σ h
+    followed-hopes = pending-kept (arena (said b)) (arena-lawful b keeps) few (entry-of b after) (planned-right done refl) σ h follows i

@@ -2,13 +2,13 @@
 use Prim.Native.Nat.{_≤_}
 use mathlib.Core.Path.{_≡_, refl}
 use native.Mathlib.Omega.{arith}
-use Rattle.rules.specs.Game.{Arena, Inside, Lawful, Way, Follows, Winning, Pending, Losing, Right, lost, met, wins, hopes}
+use Rattle.rules.specs.Game.{Arena, Play, last, Inside, Lawful, Way, Follows, Winning, Pending, Losing, Right, lost, met, wins, hopes}
 use Rattle.rules.specs.Demands.{ValueTold, WinningKept, PendingKept}
 use Rattle.rules.specs.declared.entry.Entry.{Entry}
 use Rattle.rules.proofs.Values.{accepted-winning}
 use Rattle.rules.proofs.Hopes.{wins-winning}
 use Rattle.rules.proofs.Bounds.{wins-within}
-use Rattle.rules.proofs.Following.{says-wins, says-hopes, losing-says, plan-forces, plan-tight, plan-hopes}
+use Rattle.rules.proofs.Following.{says-wins, says-hopes, losing-says, plan-forces, plan-hopes, tight, least-forced, least-hoped}
 
 module _ (G : Arena) (L : Lawful G) where
   pub value-told : {p : G .Place} {x : Entry} → Right G p x → ValueTold G p x
@@ -44,20 +44,20 @@ module _ (G : Arena) (L : Lawful G) where
       losing (hopes h k s) q = absurd (omega arith)
 
   module _ (few : G .actions ≤ 255) (e : G .Place → Entry) (right : (p : G .Place) → Inside G p → Right G p (e p)) (σ : Way G)
-      (follows : Follows G e σ)
-      (p : G .Place) (i : Inside G p) where
-    pub winning-kept : e p .value ≡ 2 → WinningKept G e σ p
+      (h : Play (G .Place)) (follows : Follows G e σ h) (i : Inside G (last h)) where
+    pub winning-kept : e (last h) .value ≡ 2 → WinningKept G e σ h
     winning-kept q =
+        let w = says-wins G L (last h) (right (last h) i) q in
         record {
-          met-within = plan-forces G L few e right σ follows p i q;
-          all-needed = plan-tight G L few e right σ follows p i q;
-          none-fewer = λ τ n f. says-wins G L p (right p i) q .1 n (τ, f);
-          at-most = wins-within G L (e p .number) p i (says-wins G L p (right p i) q);
+          met-within = plan-forces G L few e right σ h follows i q;
+          all-needed = λ τ. tight G L τ h (e (last h) .number) w;
+          none-fewer = λ τ. least-forced G L τ h w;
+          at-most = wins-within G L (e (last h) .number) (last h) i w;
         }
 
-    pub pending-kept : e p .value ≡ 1 → PendingKept G e σ p
+    pub pending-kept : e (last h) .value ≡ 1 → PendingKept G e σ h
     pending-kept q =
         record {
-          reached-by = plan-hopes G L few e right σ follows p i q;
-          none-fewer = λ τ o n b w. says-hopes G L p (right p i) q .1 .1 n (τ, o, b, w);
+          reached-by = plan-hopes G L few e right σ h follows i q;
+          none-fewer = λ τ. least-hoped G L τ h i (says-hopes G L (last h) (right (last h) i) q .1);
         }

@@ -1,6 +1,6 @@
 -- To follow a plan: it meets the goal in the number of moves that it names, where it can be forced, and may come nearer in that number,
 -- where it can be hoped for.
-use Prim.Native.Nat.{ℕ, zero, suc, _≤_, _<_, zero-le}
+use Prim.Native.Nat.{ℕ, zero, suc, _+_, _≤_, _<_, zero-le}
 use mathlib.Core.Bool.{true, false, cond}
 use mathlib.Core.List.{List, [], _∷_, List·Memᴰ, List·Memᴰ·head, List·Memᴰ·not-nil}
 use mathlib.Core.Logic.{_⊎_, inl, inr}
@@ -10,15 +10,15 @@ use native.Mathlib.Omega.{arith}
 use borrow.Author.Tests.{eq-eqb, ne-eqb}
 use lib.Dec.{eqb}
 use Rattle.rules.proofs.Lists.{some-found, sure-at}
-use Rattle.rules.proofs.Search.{clash, if-not-true, least-unique, not-yet}
+use Rattle.rules.proofs.Search.{clash, if-not-true, if-not-false, least-unique, not-yet}
 use Rattle.rules.specs.declared.entry.Entry.{Entry}
-use Rattle.rules.specs.Game.{Arena, Play, begin, last, made, Choice, stop, act, Inside, Listed, Open, Accepted, Unmet, Lawful, Way}
-use Rattle.rules.specs.Game.{run, Obeys, Follows, Forces, Winning, Pending, Losing, WinsIn, HopesIn, Sure, Hopeful, Right, lost, met}
+use Rattle.rules.specs.Game.{Arena, Play, then, last, made, Choice, stop, act, Inside, Listed, Open, Accepted, Unmet, Lawful, Way}
+use Rattle.rules.specs.Game.{advance, run, Obeys, Follows, Winning, Pending, Losing, WinsIn, HopesIn, Sure, Hopeful, Right, lost, met}
 use Rattle.rules.specs.Game.{wins, hopes, Least}
 use Rattle.rules.proofs.Rounds.{size, won, hoped, win, win-accepted}
-use Rattle.rules.proofs.Plays.{met-later, some-obeys}
-use Rattle.rules.proofs.Values.{delays, guided-meets, wins-iff, win-winning, accepted-winning}
-use Rattle.rules.proofs.Hopes.{guided-comes, hopes-iff, wins-winning}
+use Rattle.rules.proofs.Plays.{Next, over, on, next, fair-on, first, obeys-first, some-obeys, met-later}
+use Rattle.rules.proofs.Values.{delays, guided-meets, wins-iff, win-winning, winning-iff, accepted-winning}
+use Rattle.rules.proofs.Hopes.{run-inside, reach-hope, guided-comes, hopes-iff, wins-winning}
 use Rattle.rules.proofs.Right.{sure-iff, hopeful-iff, pending-at}
 
 -- ---- a way that follows entries
@@ -49,6 +49,24 @@ follow G e =
       choose = λ h. heed (e (last h) .action) (G .leads (last h) (e (last h) .action));
       legal = λ h b q. heed-open (G .leads (last h)) (e (last h) .action) b q;
     }
+
+-- ---- who follows entries goes on to follow them, along every play that comes about
+
+module _ (G : Arena) (e : G .Place → Entry) (σ : Way G) where
+  pub follows-then : (k : Play (G .Place)) {a : ℕ} {t : G .Place} → Follows G e σ k → Unmet G (last k) → σ .choose k ≡ act a
+      → Listed G (last k) a t → Follows G e σ (then k a t)
+  follows-then k {a} {t} f u d m = subst (Follows G e σ) s (λ o b n. f (first G σ t o) (obeys-first G σ k t o (fair-on G σ d m) b) (suc n))
+    where
+      s : advance G σ k t ≡ then k a t
+      s = rw (u, d)
+
+  pub follows-on : (n : ℕ) (h : Play (G .Place)) (o : ℕ → G .Place) → Obeys G σ o h → Follows G e σ h → Follows G e σ (run G σ o h n)
+  follows-on zero h o b f = f
+  follows-on (suc n) h o b f = follows-on n (advance G σ h (o zero)) (λ i. o (suc i)) (λ i a. b (suc i) a) (go (next G σ h))
+    where
+      go : Next G σ h → Follows G e σ (advance G σ h (o zero))
+      go (over s c) = rw (s (o zero)) f
+      go (on a u c s) = rw (s (o zero)) (follows-then h f u c (b zero a u c))
 
 -- ---- what an entry says, read back
 
@@ -98,68 +116,94 @@ module _ (G : Arena) (L : Lawful G) (few : G .actions ≤ 255) where
   right-named (hopes h k s) = let t = s .0 in inl (t .0, t .1)
 
   module _ (e : G .Place → Entry) (right : (p : G .Place) → Inside G p → Right G p (e p)) where
-    -- right entries can be followed
-    pub follow-follows : Follows G e (follow G e)
+    -- right entries can be followed, from every place inside
+    pub follow-follows : (h : Play (G .Place)) → Inside G (last h) → Follows G e (follow G e) h
     unfolding follow
-    follow-follows h i = go (right-named (right (last h) i))
+    follow-follows h i o b n u = go (last (run G (follow G e) o h n)) (run-inside G L (follow G e) n h o i b)
       where
-        go : Open G (last h) (e (last h) .action) ⊎ (e (last h) .action ≡ 255)
-            → heed (e (last h) .action) (G .leads (last h) (e (last h) .action))
-            ≡ cond (eqb (e (last h) .action) 255) stop (act (e (last h) .action))
-        go (inl o) = rw (open-named o) (heed-act _ _ o)
-        go (inr q) =
-            rw (eq-eqb (e (last h) .action) 255 q)
-            (heed-stop _ _ (λ t m. let c = L .counted (last h) t (e (last h) .action) m in omega arith))
+        Does : G .Place → Type 0
+        Does p = heed (e p .action) (G .leads p (e p .action)) ≡ cond (eqb (e p .action) 255) stop (act (e p .action))
 
-    module _ (σ : Way G) (follows : Follows G e σ) where
-      acts : (h : Play (G .Place)) → Inside G (last h) → Open G (last h) (e (last h) .action) → σ .choose h ≡ act (e (last h) .action)
-      acts h i o = follows h i ∙ rw (open-named o)
+        go : (p : G .Place) → Inside G p → Does p
+        go p j = by (right-named (right p j))
+          where
+            by : Open G p (e p .action) ⊎ (e p .action ≡ 255) → Does p
+            by (inl o) = rw (open-named o) (heed-act _ _ o)
+            by (inr q) =
+                rw (eq-eqb (e p .action) 255 q)
+                (heed-stop _ _ (λ t m. let c = L .counted p t (e p .action) m in omega arith))
+
+    module _ (σ : Way G) where
+      -- who follows from k on does as the entry of its last place says
+      acts : (k : Play (G .Place)) → Follows G e σ k → Unmet G (last k) → Open G (last k) (e (last k) .action)
+          → σ .choose k ≡ act (e (last k) .action)
+      acts k f u o = let (s, b) = some-obeys G σ k in f s b 0 u ∙ rw (open-named o)
+
+      abbrev Stands : Play (G .Place) → Type 0
+      Stands k = Follows G e σ k × Inside G (last k)
 
       -- where the goal is forced: each outcome of the action taken is nearer
-      plan-nearer : (h : Play (G .Place)) (n : ℕ) → Inside G (last h) → Least (λ k. win G k (last h) ≡ true) (suc n)
-          → (a : ℕ) × (σ .choose h ≡ act a) × ((t : G .Place) → Listed G (last h) a t → Inside G t × (win G n t ≡ true))
-      plan-nearer h n j l =
-          let s = wins-says G L (last h) n (right (last h) j) (wins-iff G L (suc n) (last h) .1 l) in
-          let a = e (last h) .action in
-          (a, acts h j (s .1 .0), λ t m. (L .closed (last h) t a j m, (sure-at _ _ (sure-iff G L (last h) n a .0 (s .1))) .1 t m))
-
-      pub plan-meets : (n : ℕ) (h : Play (G .Place)) → Inside G (last h) → win G n (last h) ≡ true → (o : ℕ → G .Place) → Obeys G σ o h
-          → Accepted G (last (run G σ o h n))
-      plan-meets = guided-meets G L σ (Inside G) plan-nearer
+      plan-nearer : (k : Play (G .Place)) (n : ℕ) → Stands k → Least (λ m. win G m (last k) ≡ true) (suc n)
+          → (a : ℕ) × (σ .choose k ≡ act a) × ((t : G .Place) → Listed G (last k) a t → Stands (then k a t) × (win G n t ≡ true))
+      plan-nearer k n (f, j) l =
+          let s = wins-says G L (last k) n (right (last k) j) (wins-iff G L (suc n) (last k) .1 l) in
+          let a = e (last k) .action in
+          let u : Unmet G (last k) = if-not-true _ (λ y. let x : suc n ≤ 0 = l .1 0 (win-accepted G 0 (last k) y) in omega arith) in
+          let d : σ .choose k ≡ act a = acts k f u (s .1 .0) in (
+            a,
+            d,
+            λ t m. ((follows-then G e σ k f u d m, L .closed (last k) t a j m), (sure-at _ _ (sure-iff G L (last k) n a .0 (s .1))) .1 t m),
+          )
 
       -- where it is hoped for: some outcome of the action taken is nearer
-      pub plan-toward : (h : Play (G .Place)) (n : ℕ) → Inside G (last h) → Least (λ k. hoped G k (last h) ≡ true) (suc n)
-          → (a : ℕ) × (t : G .Place) × (σ .choose h ≡ act a) × Listed G (last h) a t × Inside G t × (hoped G n t ≡ true)
-      plan-toward h n j l =
-          let s =
-          hopes-says G L (last h) (suc n) (right (last h) j) (pending-at G L (last h) j n l) (hopes-iff G L (suc n) (last h) j .1 l) in
-          let a = e (last h) .action in
-          let t = some-found _ _ (hopeful-iff G L (last h) j n l a .0 (s .1)) in
-          (a, t .0, acts h j (t .0, t .1), t .1, L .closed (last h) (t .0) a j (t .1), t .2)
+      plan-toward : (k : Play (G .Place)) (n : ℕ) → Stands k → Least (λ m. hoped G m (last k) ≡ true) (suc n)
+          → (a : ℕ) × (t : G .Place) × (σ .choose k ≡ act a) × Listed G (last k) a t × Stands (then k a t) × (hoped G n t ≡ true)
+      plan-toward k n (f, j) l =
+          let p = pending-at G L (last k) j n l in
+          let s = hopes-says G L (last k) (suc n) (right (last k) j) p (hopes-iff G L (suc n) (last k) j .1 l) in
+          let a = e (last k) .action in
+          let t = some-found _ _ (hopeful-iff G L (last k) j n l a .0 (s .1)) in
+          let u : Unmet G (last k) = if-not-true _ (λ y. absurd (p .0 (accepted-winning G L (last k) y))) in
+          let d : σ .choose k ≡ act a = acts k f u (t .0, t .1) in
+          (a, t .0, d, t .1, (follows-then G e σ k f u d (t .1), L .closed (last k) (t .0) a j (t .1)), t .2)
 
-      module _ (p : G .Place) (i : Inside G p) where
-        -- It meets the goal within the number of moves named, whatever the outcomes,
-        pub plan-forces : e p .value ≡ 2 → Forces G σ p (e p .number)
-        plan-forces q = plan-meets (e p .number) (begin p) i (wins-iff G L _ p .0 (says-wins G L p (right p i) q) .0)
+    module _ (σ : Way G) (h : Play (G .Place)) (follows : Follows G e σ h) (i : Inside G (last h)) where
+      -- It meets the goal within the number of moves named, whatever the outcomes.
+      pub plan-forces : e (last h) .value ≡ 2 → (o : ℕ → G .Place) → Obeys G σ o h → Accepted G (last (run G σ o h (e (last h) .number)))
+      plan-forces q =
+          guided-meets G L σ (Stands σ) (plan-nearer σ) (e (last h) .number) h (follows, i)
+          (wins-iff G L _ (last h) .0 (says-wins G L (last h) (right (last h) i) q) .0)
 
-        -- and, with some outcomes, no sooner.
-        pub plan-tight : e p .value ≡ 2
-            → (o : ℕ → G .Place) × Obeys G σ o (begin p) × ((m : ℕ) → m < e p .number → Unmet G (last (run G σ o (begin p) m)))
-        plan-tight q = go (e p .number) (wins-iff G L _ p .0 (says-wins G L p (right p i) q))
-          where
-            go : (n : ℕ) → Least (λ k. win G k p ≡ true) n
-                → (o : ℕ → G .Place) × Obeys G σ o (begin p) × ((m : ℕ) → m < n → Unmet G (last (run G σ o (begin p) m)))
-            go zero l = let o = some-obeys G σ (begin p) in (o .0, o .1, λ m h. absurd (omega arith))
-            go (suc n) l =
-                let d = delays G L σ n (begin p) (not-yet (λ k. win G k p) n l) in
-                (d .0, d .1, λ m h. if-not-true _ (λ y. clash (met-later G σ (d .0) (begin p) m n (le-of-suc-le-suc h) y) (d .2)))
+      -- From a pending place it comes, with some outcomes, to a winning one by exactly the number of moves named.
+      pub plan-hopes : e (last h) .value ≡ 1
+          → (o : ℕ → G .Place) × Obeys G σ o h × Winning G (last (run G σ o h (e (last h) .number)))
+          × (made (run G σ o h (e (last h) .number)) ≡ made h + e (last h) .number)
+      plan-hopes q =
+          let c = guided-comes G L (won G) (win-accepted G (size G)) σ (Stands σ) (plan-toward σ) (e (last h) .number) h (follows, i)
+          (hopes-iff G L _ (last h) i .0 (says-hopes G L (last h) (right (last h) i) q .1)) in
+          (c .0, c .1, win-winning G L (size G) _ (c .2), c .3)
 
-        -- From a pending place it comes, with some outcomes, to a winning one by exactly the number of moves named.
-        pub plan-hopes : e p .value ≡ 1
-            → (o : ℕ → G .Place) × Obeys G σ o (begin p) × Winning G (last (run G σ o (begin p) (e p .number)))
-            × (made (run G σ o (begin p) (e p .number)) ≡ e p .number)
-        plan-hopes q =
-            let c = guided-comes G L (won G) (λ q y. win-accepted G (size G) q y) σ (Inside G) plan-toward (e p .number) (begin p) i
-            (hopes-iff G L _ p i .0 (says-hopes G L p (right p i) q .1)) in
-            let m = c .3 in
-            (c .0, c .1, win-winning G L (size G) _ (c .2), omega arith)
+-- ---- what no way of choosing can do, after any play
+
+module _ (G : Arena) (L : Lawful G) (τ : Way G) (h : Play (G .Place)) where
+  -- some outcomes need all of the number of a winning place,
+  pub tight : (n : ℕ) → WinsIn G (last h) n
+      → (o : ℕ → G .Place) × Obeys G τ o h × ((m : ℕ) → m < n → Unmet G (last (run G τ o h m)))
+  tight zero w = let o = some-obeys G τ h in (o .0, o .1, λ m l. absurd (omega arith))
+  tight (suc n) w =
+      let d = delays G L τ n h (not-yet (λ k. win G k (last h)) n (wins-iff G L (suc n) (last h) .0 w)) in
+      (d .0, d .1, λ m l. if-not-true _ (λ y. clash (met-later G τ (d .0) h m n (le-of-suc-le-suc l) y) (d .2)))
+
+  -- so that none guarantees fewer,
+  pub least-forced : {n : ℕ} → WinsIn G (last h) n → (m : ℕ) → ((o : ℕ → G .Place) → Obeys G τ o h → Accepted G (last (run G τ o h m)))
+      → n ≤ m
+  least-forced w m f =
+      wins-iff G L _ (last h) .0 w .1 m
+      (if-not-false (win G m (last h)) (λ x. let d = delays G L τ m h x in clash (f (d .0) (d .1)) (d .2)))
+
+  -- and fewer moves than the number of a pending place reach no winning one.
+  pub least-hoped : {n : ℕ} → Inside G (last h) → HopesIn G (last h) n → (o : ℕ → G .Place) (m : ℕ) → Obeys G τ o h
+      → Winning G (last (run G τ o h m)) → n ≤ m
+  least-hoped i w o m b v =
+      hopes-iff G L _ (last h) i .0 w .1 m
+      (reach-hope G L (won G) τ m h o b (winning-iff G L _ (run-inside G L τ m h o i b) .0 v))

@@ -39,12 +39,12 @@ module _ (G : Arena) (L : Lawful G) where
 
     -- S has the places where plays end
     module _ (wide : (p : G .Place) → Accepted G p → S p ≡ true) where
-      -- A way that names, where n + 1 moves are needed, an action after which n may do, may come to S in time. (D: the places that it has
+      -- A way that names, where n + 1 moves are needed, an action after which n may do, may come to S in time. (D: the plays that it has
       -- to do with)
-      module _ (σ : Way G) (D : G .Place → Type 0)
-          (guide : (h : Play (G .Place)) (n : ℕ) → D (last h) → Least (λ k. hope G S k (last h) ≡ true) (suc n)
-          → (a : ℕ) × (t : G .Place) × (σ .choose h ≡ act a) × Listed G (last h) a t × D t × (hope G S n t ≡ true)) where
-        pub guided-comes : (n : ℕ) (h : Play (G .Place)) → D (last h) → Least (λ k. hope G S k (last h) ≡ true) n
+      module _ (σ : Way G) (D : Play (G .Place) → Type 0)
+          (guide : (h : Play (G .Place)) (n : ℕ) → D h → Least (λ k. hope G S k (last h) ≡ true) (suc n)
+          → (a : ℕ) × (t : G .Place) × (σ .choose h ≡ act a) × Listed G (last h) a t × D (then h a t) × (hope G S n t ≡ true)) where
+        pub guided-comes : (n : ℕ) (h : Play (G .Place)) → D h → Least (λ k. hope G S k (last h) ≡ true) n
             → (o : ℕ → G .Place) × Obeys G σ o h × (S (last (run G σ o h n)) ≡ true) × (made (run G σ o h n) ≡ made h + n)
         unfolding hope
         guided-comes zero h d l = let o = some-obeys G σ h in (o .0, o .1, l .0, omega arith)
@@ -69,7 +69,7 @@ module _ (G : Arena) (L : Lawful G) where
       pub hope-reaches : (n : ℕ) (p : G .Place) → Least (λ k. hope G S k p ≡ true) n → Reaches G (λ t. S t ≡ true) p n
       unfolding toward
       hope-reaches n p l =
-          let c = guided-comes (seek G (toward n) (toward-open n)) (λ q. hope G S n q ≡ true) guide n (begin p) (l .0) l in
+          let c = guided-comes (seek G (toward n) (toward-open n)) (λ k. hope G S n (last k) ≡ true) guide n (begin p) (l .0) l in
           (seek G (toward n) (toward-open n), c .0, c .1, c .2)
         where
           guide : (h : Play (G .Place)) (m : ℕ) → hope G S n (last h) ≡ true → Least (λ k. hope G S k (last h) ≡ true) (suc m)

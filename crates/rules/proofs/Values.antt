@@ -9,8 +9,8 @@ use Rattle.rules.specs.Job.{some-below}
 use Rattle.rules.proofs.Lists.{sure, sure-at, sure-true, sure-fails}
 use Rattle.rules.proofs.Search.{either, clash, if-not-false, if-not-true, least-map, lowest, lowest-is, has-lowest}
 use Rattle.rules.proofs.Tests.{some-stops, lowest-found}
-use Rattle.rules.specs.Game.{Arena, Play, begin, last, Choice, stop, act, Inside, Listed, Open, Accepted, Unmet, Lawful, Way, advance}
-use Rattle.rules.specs.Game.{run, Obeys, Forces, Winning, WinsIn, Least}
+use Rattle.rules.specs.Game.{Arena, Play, begin, then, last, Choice, stop, act, Inside, Listed, Open, Accepted, Unmet, Lawful, Way}
+use Rattle.rules.specs.Game.{advance, run, Obeys, Forces, Winning, WinsIn, Least}
 use Rattle.rules.proofs.Rounds.{size, won, win, win-accepted, into-win, win-up, win-mono, win-into, win-settled}
 use Rattle.rules.proofs.Plays.{Next, over, on, next, Fair, fair-on, some-fair, first, obeys-first, kept, kept-obeys, kept-keeps}
 use Rattle.rules.proofs.Plays.{some-obeys, run-over, met-stays}
@@ -72,19 +72,19 @@ module _ (G : Arena) (L : Lawful G) where
           let t = sure-fails _ _ o z in
           by (t .0) (fair-on G σ c (t .1)) (rw (s (t .0)) (t .2)) r
 
-  -- A way that names, where n + 1 moves are needed, an action after which n suffice, meets the goal in time. (D: the places that it has to
+  -- A way that names, where n + 1 moves are needed, an action after which n suffice, meets the goal in time. (D: the plays that it has to
   -- do with)
-  module _ (σ : Way G) (D : G .Place → Type 0)
-      (guide : (h : Play (G .Place)) (n : ℕ) → D (last h) → Least (λ k. win G k (last h) ≡ true) (suc n)
-      → (a : ℕ) × (σ .choose h ≡ act a) × ((t : G .Place) → Listed G (last h) a t → D t × (win G n t ≡ true))) where
-    pub guided-meets : (n : ℕ) (h : Play (G .Place)) → D (last h) → win G n (last h) ≡ true → (o : ℕ → G .Place) → Obeys G σ o h
+  module _ (σ : Way G) (D : Play (G .Place) → Type 0)
+      (guide : (h : Play (G .Place)) (n : ℕ) → D h → Least (λ k. win G k (last h) ≡ true) (suc n)
+      → (a : ℕ) × (σ .choose h ≡ act a) × ((t : G .Place) → Listed G (last h) a t → D (then h a t) × (win G n t ≡ true))) where
+    pub guided-meets : (n : ℕ) (h : Play (G .Place)) → D h → win G n (last h) ≡ true → (o : ℕ → G .Place) → Obeys G σ o h
         → Accepted G (last (run G σ o h n))
     unfolding win
     guided-meets zero h d e o b = e
     guided-meets (suc n) h d e o b = go (either (G .accepted (last h))) (λ k x y. guided-meets n k x y (λ i. o (suc i)))
       where
         go : Accepted G (last h) ⊎ Unmet G (last h)
-            → ((k : Play (G .Place)) → D (last k) → win G n (last k) ≡ true → Obeys G σ (λ i. o (suc i)) k
+            → ((k : Play (G .Place)) → D k → win G n (last k) ≡ true → Obeys G σ (λ i. o (suc i)) k
             → Accepted G (last (run G σ (λ i. o (suc i)) k n)))
             → Accepted G (last (run G σ o h (suc n)))
         go (inl y) r = rw (run-over G σ o h (suc n) (met-stays G σ h y)) y
@@ -111,7 +111,7 @@ module _ (G : Arena) (L : Lawful G) where
   unfolding nearer
   win-forces n p e = (
     seek G (nearer n) (nearer-open n),
-    λ o b. guided-meets (seek G (nearer n) (nearer-open n)) (λ q. win G n q ≡ true) guide n (begin p) e e o b,
+    λ o b. guided-meets (seek G (nearer n) (nearer-open n)) (λ k. win G n (last k) ≡ true) guide n (begin p) e e o b,
   )
     where
       guide : (h : Play (G .Place)) (m : ℕ) → win G n (last h) ≡ true → Least (λ k. win G k (last h) ≡ true) (suc m)

@@ -85,9 +85,12 @@ module _ (G : Arena) where
   abbrev pub Obeys : Way → (ℕ → G .Place) → Play (G .Place) → Type 0
   Obeys σ o h = (n a : ℕ) → Unmet (last (run σ o h n)) → σ .choose (run σ o h n) ≡ act a → Listed (last (run σ o h n)) a (o n)
 
-  -- σ follows the entries e: it takes the action that they name, and stops where they name none (255)
-  abbrev pub Follows : (G .Place → Entry) → Way → Type 0
-  Follows e σ = (h : Play (G .Place)) → Inside (last h) → σ .choose h ≡ cond (eqb (e (last h) .action) 255) stop (act (e (last h) .action))
+  -- from h on, σ follows the entries e: along every play that comes about by it with listed outcomes, as long as the goal is not met,
+  -- it takes the action that they name, and stops where they name none (255)
+  abbrev pub Follows : (G .Place → Entry) → Way → Play (G .Place) → Type 0
+  Follows e σ h =
+      (o : ℕ → G .Place) → Obeys σ o h → (n : ℕ) → Unmet (last (run σ o h n))
+      → let a = e (last (run σ o h n)) .action in σ .choose (run σ o h n) ≡ cond (eqb a 255) stop (act a)
 
   -- by σ the goal is met within n moves against every sequence of listed outcomes
   abbrev pub Forces : Way → G .Place → ℕ → Type 0
