@@ -11,12 +11,14 @@ pub mod Hopes
 pub mod Right
 pub mod Bounds
 pub mod Following
+pub mod Visiting
 pub mod Demands
 pub mod Rows
 pub mod Judged
 pub mod Numbers
 pub mod Kept
 pub mod Arenas
+pub mod Traces
 pub mod Figures
 pub mod Plans
 pub mod Unique

@@ -9,4 +9,6 @@ pub mod Answers
 pub mod Plan
 pub mod Calls
 pub mod Demands
+pub mod Visits
+pub mod Trace
 pub mod Examples
