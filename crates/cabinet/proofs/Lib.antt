@@ -3,5 +3,10 @@ pub mod Answering
 pub mod Starting
 pub mod Unique
 pub mod Demands
+pub mod Turns
+pub mod Tracing
+pub mod Callers
 pub mod Advising
 pub mod Ranges
+pub mod Looping
+pub mod Playing

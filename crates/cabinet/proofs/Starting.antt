@@ -30,7 +30,7 @@ past P true n y some holds e = absurd (some refl e)
 past P false n y some holds e = holds refl e
 
 -- the bytes are judged first
-judged : (P : MovedFigures → Type 0) (b : List ℕ) (y : MovedFigures) → (Keeps b → When P y)
+pub judged : (P : MovedFigures → Type 0) (b : List ℕ) (y : MovedFigures) → (Keeps b → When P y)
     → When P (cond (not (eqb (refusal b) 0)) (refused-move (refusal b)) y)
 judged P b y holds =
     past P (not (eqb (refusal b) 0)) (refusal b) y

@@ -1,2 +1,3 @@
 -- What the promises of the calls for C are said with, beside the meaning.
 pub mod Figures
+pub mod Playing

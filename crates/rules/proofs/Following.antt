@@ -105,7 +105,7 @@ module _ (G : Arena) (L : Lawful G) (p : G .Place) where
 
 module _ (G : Arena) (L : Lawful G) (few : G .actions ≤ 255) where
   -- an open action is not 255
-  open-named : {p : G .Place} {a : ℕ} → Open G p a → eqb a 255 ≡ false
+  pub open-named : {p : G .Place} {a : ℕ} → Open G p a → eqb a 255 ≡ false
   open-named {p} {a} o = let c = L .counted p (o .0) a (o .1) in ne-eqb a 255 (λ (q : a ≡ 255). omega arith)
 
   -- an entry names an open action, or none
