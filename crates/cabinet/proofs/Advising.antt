@@ -22,7 +22,7 @@ use Rattle.rules.proofs.Values.{wins-iff}
 use Rattle.rules.proofs.Bounds.{wins-below, hopes-below}
 use Rattle.rules.proofs.Entries.{shaped-winning, shaped-pending}
 use Rattle.rules.proofs.Arenas.{inside-iff, size-of, arena-lawful}
-use Rattle.labelling.proofs.Demands.{entry-of, planned-exactly, planned-right}
+use Rattle.rules.proofs.Planned.{entry-of, planned-exactly, planned-right}
 
 due-true : (A n a k : ℕ) (v : ℕ) → a < A → 1 ≤ k → k < n → due A n (says v a k) ≡ true
 due-true A n a k v h i j = rw (lt-ltb a A h, le-leb 1 k i, lt-ltb k n j)

@@ -19,8 +19,8 @@ use Rattle.rules.specs.Demands.{ValueTold, WinningKept, PendingKept}
 use Rattle.rules.specs.declared.place.Place.{Place}
 use Rattle.rules.proofs.Kept.{kept}
 use Rattle.rules.proofs.Unique.{no-overrun}
-use Rattle.labelling.proofs.Demands.{entry-of, planned-exactly, planned-right, values-told, followable, followed-on}
-use Rattle.labelling.proofs.Demands.{followed-wins, followed-hopes}
+use Rattle.rules.proofs.Planned.{entry-of, planned-exactly, planned-right}
+use Rattle.labelling.proofs.Demands.{values-told, followable, followed-on, followed-wins, followed-hopes}
 
 -- ---- 1. Bad input is refused by number, first fault first, and a refusal changes nothing.
 

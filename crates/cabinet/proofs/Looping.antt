@@ -20,7 +20,7 @@ use Rattle.rules.proofs.Hopes.{wins-winning, hopes-iff}
 use Rattle.rules.proofs.Right.{pending-at}
 use Rattle.rules.proofs.Following.{says-wins, hopes-says, right-named, open-named}
 use Rattle.rules.proofs.Arenas.{arena-lawful}
-use Rattle.labelling.proofs.Demands.{entry-of, planned-exactly, planned-right}
+use Rattle.rules.proofs.Planned.{entry-of, planned-exactly, planned-right}
 use Rattle.cabinet.specs.Playing.{Caller, turn, turns, told, heeds, Stands, AsListed}
 use Rattle.cabinet.proofs.Advising.{advice-planned}
 use Rattle.cabinet.proofs.Starting.{followed-listed}

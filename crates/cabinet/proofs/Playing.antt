@@ -20,7 +20,8 @@ use Rattle.rules.proofs.Following.{says-wins, says-hopes}
 use Rattle.rules.proofs.Visiting.{goes-hoped, goes-possible}
 use Rattle.rules.proofs.Kept.{kept}
 use Rattle.rules.proofs.Arenas.{start-inside, arena-lawful}
-use Rattle.labelling.proofs.Demands.{entry-of, values-told}
+use Rattle.rules.proofs.Planned.{entry-of}
+use Rattle.labelling.proofs.Demands.{values-told}
 use Rattle.cabinet.specs.Playing.{Caller, turns, told, heeds, Stands, Met, AsListed, Guarantees}
 use Rattle.cabinet.specs.Playing.{WinningPlayed, PendingPlayed, EndTold}
 use Rattle.cabinet.proofs.Turns.{at, join, stands-inside, inside-stands, turns-go, turns-join, stays-on}

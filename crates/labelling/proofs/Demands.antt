@@ -1,65 +1,26 @@
--- The second and the third demand, over what planning promises.
-use Prim.Native.Nat.{ℕ, _+_, _*_, _≤_, _<_}
-use mathlib.Core.List.{List, _++_}
-use mathlib.Core.Logic.{_↔_}
+-- The third demand, over what planning promises.
+use Prim.Native.Nat.{ℕ, _≤_}
+use mathlib.Core.List.{List}
 use mathlib.Core.Path.{_≡_, refl}
 use native.Mathlib.Omega.{arith}
-use lib.Arith.{digits-lt}
-use lib.ListN.{length, drop, List·getD-append}
-use Rattle.rules.specs.Game.{Play, last, Inside, Way, run, Obeys, Follows, Right}
-use Rattle.rules.specs.Job.{places, entry-number, arena}
+use Rattle.rules.specs.Game.{Play, last, Inside, Way, run, Obeys, Follows}
+use Rattle.rules.specs.Job.{arena}
 use Rattle.rules.specs.Bytes.{said}
 use Rattle.rules.specs.Keeps.{Keeps}
-use Rattle.rules.specs.Plan.{entry, room}
-use Rattle.rules.specs.Calls.{Planning, refused, no-room, overrun, planned}
+use Rattle.rules.specs.Calls.{Planning}
 use Rattle.rules.specs.Demands.{ValueTold, WinningKept, PendingKept}
 use Rattle.rules.specs.declared.place.Place.{Place}
-use Rattle.rules.specs.declared.entry.Entry.{Entry}
-use Rattle.rules.proofs.Kept.{kept}
-use Rattle.rules.proofs.Arenas.{inside-iff, arena-lawful}
-use Rattle.rules.proofs.Unique.{no-overrun}
+use Rattle.rules.proofs.Arenas.{arena-lawful}
+use Rattle.rules.proofs.Planned.{entry-of, planned-exactly, planned-right}
 use Rattle.rules.proofs.Hopes.{run-inside}
 use Rattle.rules.proofs.Following.{follow, follow-follows, follows-on}
 use Rattle.rules.proofs.Demands.{value-told, winning-kept, pending-kept}
-
--- what a buffer says of a place
-abbrev pub entry-of : (b after : List ℕ) → Place → Entry
-entry-of b after p = entry after (entry-number (said b .goals) p)
-
--- A job is planned exactly when it keeps the rules and the plan has room.
-pub planned-exactly : {b before after : List ℕ} {r : ℕ} → Planning b before r after → (r ≡ 0) ↔ (Keeps b × (room (said b) ≤ length before))
-planned-exactly {b} (refused n) = (λ e. absurd (n e), λ t. absurd (n (kept b .1 (t .0))))
-planned-exactly {b} (no-room e l) = (λ z. absurd (omega arith), λ t. absurd (omega (arith, t .1)))
-planned-exactly {b} (overrun e l o) = (λ z. absurd (omega arith), λ t. absurd (no-overrun b (t .0) o))
-planned-exactly {b} (planned e l n p) = (λ z. (kept b .0 e, l), λ t. refl)
-
--- the entry of a place in a plan with more bytes behind it
-front-entry : (p q : List ℕ) (i : ℕ) → 4 * i + 4 ≤ length p → entry (p ++ q) i ≡ entry p i
-front-entry p q i h =
-    let a = List·getD-append p q 0 (4 * i) (omega arith) in
-    let b = List·getD-append p q 0 (4 * i + 1) (omega arith) in
-    let c = List·getD-append p q 0 (4 * i + 2) (omega arith) in
-    let d = List·getD-append p q 0 (4 * i + 2 + 1) (omega arith) in
-    λ j. record { value = a j; action = b j; number = c j + 256 * d j }
-
--- Every plan byte is the one that the rules fix: each entry says what is right (`plan-unique` has the bytes),
-pub planned-right : {b before after : List ℕ} {r : ℕ} → Planning b before r after → r ≡ 0 → (p : Place) → Inside (arena (said b)) p
-    → Right (arena (said b)) p (entry-of b after p)
-planned-right (refused n) z p i = absurd (n z)
-planned-right (no-room e l) z p i = absurd (omega arith)
-planned-right (overrun e l o) z p i = absurd (omega arith)
-planned-right {b} {before} (planned {p = bytes} e l n plan) z p i =
-    let (hs, hq) = inside-iff (said b) p .0 i in
-    let below : entry-number (said b .goals) p < places (said b) = digits-lt hs hq in
-    let long = plan .long in
-    rw (front-entry bytes (drop (room (said b)) before) (entry-number (said b .goals) p) (omega arith))
-    (plan .right (p .state) (p .goal) hs hq)
 
 module _ {b before after : List ℕ} (done : Planning b before 0 after) where
   keeps : Keeps b
   keeps = planned-exactly done .0 refl .0
 
-  -- and each value is the place's.
+  -- each value is the place's
   pub values-told : (p : Place) → Inside (arena (said b)) p → ValueTold (arena (said b)) p (entry-of b after p)
   values-told p i = value-told (arena (said b)) (arena-lawful b keeps) (planned-right done refl p i)
 

@@ -22,10 +22,12 @@ pub mod Traces
 pub mod Figures
 pub mod Plans
 pub mod Unique
-pub mod Marked
+pub mod Planned
 pub mod Bits
 pub mod LowestBit
 pub mod Members
 pub mod Sizes
 pub mod Entries
 pub mod Determined
+pub mod Existing
+pub mod Marked

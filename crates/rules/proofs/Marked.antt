@@ -1,22 +1,23 @@
--- The marked cases of document 01, each shown right from the job's bytes.
+-- The marked cases of document 01, each shown from the job's bytes to the plan's.
 use mathlib.Core.Bool.{Bool, true, _&&_}
 use mathlib.Core.List.{List·Memᴰ}
 use mathlib.Core.Path.{_≡_, refl, sym}
 use lib.Dec.{eqb}
-use Rattle.rules.specs.Game.{Right, says}
+use Rattle.rules.specs.Game.{says}
 use Rattle.rules.specs.Job.{place, start, arena}
 use Rattle.rules.specs.Bytes.{refusal, said}
-use Rattle.rules.specs.Keeps.{Keeps}
 use Rattle.rules.specs.Calls.{is-place}
-use Rattle.rules.specs.Examples.{plate, early, Case, marked}
+use Rattle.rules.specs.Examples.{plate, early, Case, marked, CaseHolds}
 use Rattle.rules.specs.declared.entry.Entry.{Entry}
 use Rattle.rules.proofs.Lists.{every, every-at, some, sure}
 use Rattle.rules.proofs.Search.{lowest}
 use Rattle.rules.proofs.Tests.{and-iff, eqb-iff, ltb-iff}
 use Rattle.rules.proofs.Kept.{kept}
 use Rattle.rules.proofs.Rounds.{win, hope}
-use Rattle.rules.proofs.Right.{by-rounds, right-iff}
+use Rattle.rules.proofs.Right.{by-rounds, right-iff, right-unique}
 use Rattle.rules.proofs.Arenas.{inside-iff, arena-lawful}
+use Rattle.rules.proofs.Planned.{planned-exactly, planned-right}
+use Rattle.rules.proofs.Existing.{planned-with-room}
 
 same-entry : Entry → Entry → Bool
 same-entry e f = eqb (e .value) (f .value) && (eqb (e .action) (f .action) && eqb (e .number) (f .number))
@@ -32,24 +33,30 @@ all-hold : every holds marked ≡ true
 unfolding same-entry holds by-rounds win hope lowest every some sure
 all-hold = refl
 
-case-right : (c : Case) → holds c ≡ true → Keeps (c .job) × Right (arena (said (c .job))) (c .at) (c .entry)
+case-holds : (c : Case) → holds c ≡ true → CaseHolds c
 unfolding holds same-entry
-case-right c h =
+case-holds c h =
     let b = c .job in
+    let G = arena (said b) in
     let t =
     and-iff (eqb-iff _ _)
     (and-iff (and-iff (ltb-iff _ _) (ltb-iff _ _)) (and-iff (eqb-iff _ _) (and-iff (eqb-iff _ _) (eqb-iff _ _)))) .0 h in
     let k = kept b .0 (t .0) in
     let e = t .1 .1 in
-    let i = inside-iff (said b) (c .at) .1 (t .1 .0) in (
-      k,
-      right-iff (arena (said b)) (arena-lawful b k) (c .at) i (c .entry) .1
-          (λ j. says (sym (e .0) j) (sym (e .1 .0) j) (sym (e .1 .1) j)),
-    )
+    let i = inside-iff (said b) (c .at) .1 (t .1 .0) in
+    let L = arena-lawful b k in
+    let right = right-iff G L (c .at) i (c .entry) .1 (λ j. says (sym (e .0) j) (sym (e .1 .0) j) (sym (e .1 .1) j)) in
+    record {
+      keeps = k;
+      inside = i;
+      planned = λ before enough. planned-with-room b before k enough;
+      answered = λ before after r enough p. planned-exactly p .1 (k, enough);
+      there = λ before after p. right-unique G L (planned-right p refl (c .at) i) right;
+    }
 
--- Each marked case is right: the job keeps the rules, and the plan says at the place what the table has.
-pub marked-right : (c : Case) → List·Memᴰ c marked → Keeps (c .job) × Right (arena (said (c .job))) (c .at) (c .entry)
-marked-right c m = case-right c (every-at holds marked all-hold c m)
+-- Each marked case holds, from the job's bytes to the plan's.
+pub marked-planned : (c : Case) → List·Memᴰ c marked → CaseHolds c
+marked-planned c m = case-holds c (every-at holds marked all-hold c m)
 
 -- where the worked jobs start
 pub plate-starts : start (said plate) ≡ place 0 0

@@ -1,8 +1,14 @@
 -- The worked jobs of document 01, in bytes: One plate, Bare with either mark, and Early; and the fifteen marked cases.
-use Prim.Native.Nat.{ℕ}
+use Prim.Native.Nat.{ℕ, _≤_}
 use mathlib.Core.List.{List, [], _∷_}
-use Rattle.rules.specs.Game.{says}
-use Rattle.rules.specs.Job.{place}
+use mathlib.Core.Path.{_≡_}
+use lib.ListN.{length}
+use Rattle.rules.specs.Game.{says, Inside}
+use Rattle.rules.specs.Job.{place, entry-number, arena}
+use Rattle.rules.specs.Bytes.{said}
+use Rattle.rules.specs.Keeps.{Keeps}
+use Rattle.rules.specs.Plan.{entry, room}
+use Rattle.rules.specs.Calls.{Planning}
 use Rattle.rules.specs.declared.place.Place.{Place}
 use Rattle.rules.specs.declared.entry.Entry.{Entry}
 
@@ -58,3 +64,13 @@ marked =
     ∷ case (bare 1) (place 0 0) (says 2 255 0)
     ∷ case early (place 0 1) (says 0 255 0)
     ∷ []
+
+-- What a marked case says, from bytes to bytes: the job keeps the rules, and the place is one of its places; into every buffer with room it
+-- is planned, with no other answer than 0; and whatever buffer planning leaves has the entry there.
+pub record CaseHolds (c : Case) : Type 0 where
+  pub keeps : Keeps (c .job)
+  pub inside : Inside (arena (said (c .job))) (c .at)
+  pub planned : (before : List ℕ) → room (said (c .job)) ≤ length before → (after : List ℕ) × Planning (c .job) before 0 after
+  pub answered : (before after : List ℕ) (r : ℕ) → room (said (c .job)) ≤ length before → Planning (c .job) before r after → r ≡ 0
+  pub there : (before after : List ℕ) → Planning (c .job) before 0 after
+      → entry after (entry-number (said (c .job) .goals) (c .at)) ≡ c .entry
