@@ -21,10 +21,11 @@ use Rattle.rules.proofs.Right.{pending-at}
 use Rattle.rules.proofs.Following.{says-wins, hopes-says, right-named, open-named}
 use Rattle.rules.proofs.Arenas.{arena-lawful}
 use Rattle.rules.proofs.Planned.{entry-of, planned-exactly, planned-right}
-use Rattle.cabinet.specs.Playing.{Caller, turn, turns, told, heeds, Stands, AsListed}
+use Rattle.cabinet.specs.Playing.{Caller, turn, turns, told, heeds, Stands, AsListed, Allows}
 use Rattle.cabinet.proofs.Advising.{advice-planned}
 use Rattle.cabinet.proofs.Starting.{followed-listed}
-use Rattle.cabinet.proofs.Turns.{at, first, stands-inside, inside-stands, followed-stands, listed-taken, answered-before}
+use Rattle.cabinet.proofs.Turns.{at, first, stands-inside, inside-stands, followed-stands, listed-taken, answered-before, turns-go}
+use Rattle.cabinet.proofs.Turns.{allowed-answered}
 
 module _ {b before after : List ℕ} (done : Planning b before 0 after) where
   pub keeps : Keeps b
@@ -67,30 +68,24 @@ module _ {b before after : List ℕ} (done : Planning b before 0 after) where
   abbrev heeded-turns : (ℕ → ℕ) → Play MovedFigures → ℕ → Play MovedFigures
   heeded-turns o h n = turns b heeding o h n
 
-  -- where each outcome is a listed one no move is refused
+  -- the calls allow the loop, from every place on; so where each outcome is a listed one no move is refused
+  pub loop-allowed : (h : Play MovedFigures) → Stands b (last h) → Allows b heeding h
+  loop-allowed h s o n a e d =
+      let t = turns-go b heeding n o h (begin (at (last h))) s refl e .stands in
+      go t (heeded-at (heeded-turns o h n) t)
+    where
+      k : Play MovedFigures
+      k = heeded-turns o h n
+
+      go : Stands b (last k) → Heeded k → (t : ℕ) × (followed b (last k .state) (last k .goal) a t .refusal ≡ 0)
+      go s (none-named q) = let z : _≡_ {A = ℕ} 0 1 = cc in absurd (omega arith)
+      go s (named a′ q (t, m)) =
+          let same : a′ ≡ a = cc in
+          (t .state, rw (← same) (ap (λ (g : MovedFigures). g .refusal) (listed-taken b keeps s a′ t m)))
+
   pub none-refused : (n : ℕ) (o : ℕ → ℕ) (h : Play MovedFigures) → Stands b (last h) → AsListed b heeding o h n
       → last (heeded-turns o h n) .refusal ≡ 0
-  none-refused zero o h s l = s .answered
-  none-refused (suc n) o h s l = go (heeded-at h s) (λ h. none-refused n (λ i. o (suc i)) h)
-    where
-      rest : AsListed b heeding (λ i. o (suc i)) (turn b heeding h (o zero)) n
-      rest k a t x = l (suc k) a t (omega arith)
-
-      go : Heeded h
-          → ((h : Play MovedFigures) → Stands b (last h) → AsListed b heeding (λ i. o (suc i)) h n
-          → last (heeded-turns (λ i. o (suc i)) h n) .refusal ≡ 0)
-          → last (heeded-turns o h (suc n)) .refusal ≡ 0
-      go (none-named d) rec =
-          let x : turn b heeding h (o zero) ≡ h = rw (eq-eqb (last h .refusal) 0 (s .answered), d) in
-          rec (turn b heeding h (o zero)) (subst (λ (k : Play MovedFigures). Stands b (last k)) (sym x) s) rest
-      go (named a d (t, m)) rec =
-          let f = followed b (last h .state) (last h .goal) a (o zero) in
-          let x : turn b heeding h (o zero) ≡ then h a f = rw (eq-eqb (last h .refusal) 0 (s .answered), d) in
-          let took = ap (λ (g : MovedFigures). g .refusal) (listed-taken b keeps s a t m) in
-          let e = l zero a (t .state) (omega arith) (s .answered) d took in
-          let there = followed-stands b (last h .state) (last h .goal) a (o zero) e in
-          rec (turn b heeding h (o zero))
-          (subst (λ (k : Play MovedFigures). Stands b (last k)) (sym x) there) rest
+  none-refused n o h s l = allowed-answered b heeding n o h (loop-allowed h s) (s .answered) l
 
   -- From where the goal can be forced within m turns, n of them meet it.
   pub meets : (n : ℕ) (h : Play MovedFigures) → Stands b (last h) → (m : ℕ) → WinsIn G (at (last h)) m → m ≤ n → (o : ℕ → ℕ)

@@ -22,9 +22,9 @@ use Rattle.rules.proofs.Kept.{kept}
 use Rattle.rules.proofs.Arenas.{start-inside, arena-lawful}
 use Rattle.rules.proofs.Planned.{entry-of}
 use Rattle.labelling.proofs.Demands.{values-told}
-use Rattle.cabinet.specs.Playing.{Caller, turns, told, heeds, Stands, Met, AsListed, Guarantees}
+use Rattle.cabinet.specs.Playing.{Caller, turns, told, heeds, Stands, Met, AsListed, Guarantees, Allows}
 use Rattle.cabinet.specs.Playing.{WinningPlayed, PendingPlayed, EndTold}
-use Rattle.cabinet.proofs.Turns.{at, join, stands-inside, inside-stands, turns-go, turns-join, stays-on}
+use Rattle.cabinet.proofs.Turns.{at, join, stands-inside, inside-stands, turns-go, turns-join, stays-on, allowed-answered}
 use Rattle.cabinet.proofs.Callers.{caller-needs}
 use Rattle.cabinet.proofs.Looping.{keeps, told-entry, entry-right, none-refused, meets, Reached, reaches}
 
@@ -95,6 +95,20 @@ module _ {b before after : List ℕ} (done : Planning b before 0 after) where
             let (m, y, z) = g o (λ k a t q. l k a t (omega arith)) in
             u m (omega arith) z))
 
+    -- The same, said with refusals alone. Some outcomes, none of them refused, need all of the turns of the loop;
+    pub loop-needs-all : told b after h .value ≡ 2
+        → (o : ℕ → ℕ) × (last (heeded-turns o h (told b after h .number)) .refusal ≡ 0)
+        × ((m : ℕ) → m < told b after h .number → Met b (last (heeded-turns o h m)) → ⊥)
+    loop-needs-all v =
+        let (o, l, u) = winning-played v .all-needed (heeds b after) in
+        (o, none-refused done (told b after h .number) o h s l, u)
+
+    -- and where the calls allow c, and by c the goal is met within n turns whenever none of them is refused, n is no smaller.
+    pub none-allowed-fewer : told b after h .value ≡ 2 → (c : Caller) → Allows b c h → (n : ℕ)
+        → ((o : ℕ → ℕ) → last (turns b c o h n) .refusal ≡ 0 → (m : ℕ) × (m ≤ n) × Met b (last (turns b c o h m)))
+        → told b after h .number ≤ n
+    none-allowed-fewer v c al n f = winning-played v .none-fewer c n (λ o l. f o (allowed-answered b c n o h al (s .answered) l))
+
     pub pending-played : told b after h .value ≡ 1 → PendingPlayed b after h
     pending-played v = record { reached-by = reached; none-fewer = fewer }
       where
@@ -158,11 +172,10 @@ module _ {b before after : List ℕ} (done : Planning b before 0 after) where
   from-winning : (h : Play MovedFigures) → Stands b (last h) → Winning G (at (last h))
       → (o : ℕ → ℕ) × (n : ℕ) × Met b (last (heeded-turns o h n))
   from-winning h s w =
-      let v = values-told done (at (last h)) (stands-inside b s) .winning .1 w in
-      let p = winning-played h s (ap (λ (f : AdvisedFigures). f .value) (told-entry done h s) ∙ v) in
-      let (o, l, u) = p .all-needed (heeds b after) in
-      let n = told b after h .number in
-      (o, n, p .met-within o (none-refused done n o h s l) .0)
+      let e = values-told done (at (last h)) (stands-inside b s) .winning .1 w in
+      let v = ap (λ (f : AdvisedFigures). f .value) (told-entry done h s) ∙ e in
+      let (o, r, u) = loop-needs-all h s v in
+      (o, told b after h .number, winning-played h s v .met-within o r .0)
 
   from-reached : (h : Play MovedFigures) (n : ℕ) → Reached done h n → (o : ℕ → ℕ) × (n : ℕ) × Met b (last (heeded-turns o h n))
   from-reached h n r =

@@ -19,7 +19,7 @@ use Rattle.rules.proofs.Tests.{and-iff, ltb-iff}
 use Rattle.rules.proofs.Kept.{kept}
 use Rattle.rules.proofs.Visiting.{goes-on}
 use Rattle.rules.proofs.Arenas.{inside-iff, is-record-iff, recorded-iff, leads-iff}
-use Rattle.cabinet.specs.Playing.{Caller, turn, turns, Stands}
+use Rattle.cabinet.specs.Playing.{Caller, turn, turns, Stands, AsListed, Allows}
 use Rattle.cabinet.proofs.Starting.{followed-inside, followed-listed, listed-followed}
 
 -- the place that an answer names
@@ -172,3 +172,15 @@ module _ (b : List ℕ) (c : Caller) where
           by (inr e) =
               inr (ap (λ (k : Play MovedFigures). last k .refusal)
               (refused-ends n (λ i. o (suc i)) (then h a f) (λ (z : f .refusal ≡ 0). omega arith)) ∙ e)
+
+  -- for whom the calls allow, listed outcomes are those that are not refused
+  pub allowed-answered : (n : ℕ) (o : ℕ → ℕ) (h : Play MovedFigures) → Allows b c h → last h .refusal ≡ 0 → AsListed b c o h n
+      → last (turns b c o h n) .refusal ≡ 0
+  allowed-answered zero o h al e l = e
+  allowed-answered (suc n) o h al e l =
+      allowed-answered n (λ i. o (suc i)) (turn b c h (o zero)) (λ p i. al (first (o zero) p) (suc i)) (go (turned h (o zero) e))
+      (λ k a t x. l (suc k) a t (omega arith))
+    where
+      go : Turned h (o zero) → last (turn b c h (o zero)) .refusal ≡ 0
+      go (stays d x) = rw x e
+      go (moves a d x) = let (t, y) = al o zero a e d in rw x (l zero a t (omega arith) e d y)

@@ -59,6 +59,12 @@ module _ (b : List ℕ) where
   abbrev pub Guarantees : Caller → Play MovedFigures → ℕ → Type 0
   Guarantees c h n = (o : ℕ → ℕ) → AsListed c o h n → (m : ℕ) × (m ≤ n) × Met (last (turns c o h m))
 
+  -- The calls allow c from h on: as long as no move is refused, each action that it names is one that following takes with some outcome.
+  abbrev pub Allows : Caller → Play MovedFigures → Type 0
+  Allows c h =
+      (o : ℕ → ℕ) (n a : ℕ) → last (turns c o h n) .refusal ≡ 0 → c (turns c o h n) ≡ act a
+      → (t : ℕ) × (followed b (last (turns c o h n) .state) (last (turns c o h n) .goal) a t .refusal ≡ 0)
+
   -- h is the run of calls so far: what is promised holds from its last answer on, whatever came before.
   module _ (plan : List ℕ) (h : Play MovedFigures) where
     -- Where advice says winning: the loop meets the goal within the number of turns if no move is refused, and advice then says 2, 255, 0;

@@ -111,7 +111,8 @@ module _ {b : List ℕ} (k : Keeps b) where
           let j = inside-at (y / 4) i in
           rw (byte-at y (omega arith)) (right-small j (by-rounds-right G (arena-lawful b k) (place-of (y / 4)) j) (y % 4))
 
-      right : (s q : ℕ) → s < said b .states → q < said b .goals → Right G (place s q) (entry bytes (entry-number (said b .goals) (place s q)))
+      right : (s q : ℕ) → s < said b .states → q < said b .goals
+          → Right G (place s q) (entry bytes (entry-number (said b .goals) (place s q)))
       right s q hs hq =
           let here : place-of (s * said b .goals + q) ≡ place s q = λ i. place (digits-div s hq i) (digits-mod s hq i) in
           rw (entry-at (s * said b .goals + q) (digits-lt hs hq), here)
