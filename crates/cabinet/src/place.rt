@@ -90,7 +90,7 @@ impl Place {
         }
     }
 
-    pub fn advice_read(self, job: &[u8], l: Layout, plan: &[u8]) -> Advised
+    fn advice_read(self, job: &[u8], l: Layout, plan: &[u8]) -> Advised
         requires { ⌜ Fit (now job) l ⌝ }
         ensures { λ r. ⌜ advised-figures r ≡ advised (now (job .entry)) (now (plan .entry)) (self .state) (self .goal) ⌝ }
     {

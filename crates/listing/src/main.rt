@@ -1,133 +1,137 @@
 // The listing: a job on standard input, and what its plan says of each place on standard output.
-mod text;
-
+ghost use mathlib.Core.List.{_++_};
+ghost use lib.ListN.{take};
+ghost use Rattle.io.specs.Counts.{Counts};
+ghost use Rattle.rules.specs.Job.{upto, each};
+ghost use Rattle.text.specs.Put.{Put};
+ghost use Rattle.listing.specs.Listing.{lines, Prints, valued-line, started-line, advised-line, Printed};
 use cabinet::place::Moved;
 use cabinet::place::Place;
-use job::layout::Layout;
 use job::layout::Reading;
 use rules::answer::Advised;
 use rules::answer::Planned;
-use rules::answer::Refusal;
-use rules::answer::Value;
-use text::end_line;
-use text::put;
-use text::put_number;
-use text::put_text;
-ghost use Rattle.job.specs.Layout.{Fit};
 
-// A refused job: the word and the number.
-fn refused(why: Refusal) {
-    let mut line = [0u8; 64];
-    let at = put_text(&mut line, 0, b"refused ");
-    let at = put_number(&mut line, at, why.number());
-    end_line(&mut line, at);
-}
+// The longest text: 4,096 lines of at most 23 bytes, and the first of at most 21.
+const ROOM: usize = 94229;
 
-fn put_value(line: &mut [u8], at: usize, value: Value) -> usize {
-    match value {
-        Value::Losing => put_text(line, at, b"losing"),
-        Value::Pending => put_text(line, at, b"pending"),
-        Value::Winning => put_text(line, at, b"winning"),
+// The first line, of the starting place p.
+fn list_first(out: &mut [u8], at: usize, job: &[u8], plan: &[u8], p: Place) -> usize
+    ensures { λ r. ⌜ Put (now (out .entry)) at
+        (valued-line (now (job .entry)) (now (plan .entry)) (p .state) (p .goal))
+        (now (out .exit)) r ⌝ }
+{
+    match p.advice(job, plan) {
+        Advised::Refused(why) => text::put_refusal(out, at, why),
+        Advised::Says {
+            value,
+            action: _,
+            number: _,
+        } => text::put_start(out, at, p.state, p.goal, value),
     }
 }
 
-fn put_place(line: &mut [u8], at: usize, p: Place) -> usize {
-    let at = put_number(line, at, p.state);
-    let at = put(line, at, b' ');
-    let at = put_number(line, at, p.goal);
-    put(line, at, b' ')
-}
-
-// The action, or "-" where none is named.
-fn put_action(line: &mut [u8], at: usize, action: u8) -> usize {
-    if action == 255 {
-        return put(line, at, b'-');
+// The first line, wherever the job starts.
+fn list_start(out: &mut [u8], at: usize, job: &[u8], plan: &[u8]) -> usize
+    ensures { λ r. ⌜ Put (now (out .entry)) at
+        (started-line (now (job .entry)) (now (plan .entry)))
+        (now (out .exit)) r ⌝ }
+{
+    match (Place { state: 0, goal: 0 }).start(job) {
+        Moved::Refused(why) => text::put_refusal(out, at, why),
+        Moved::To(p) => list_first(out, at, job, plan, p),
     }
-    put_number(line, at, action as u32)
 }
 
-// The first line: the starting place and its value.
-fn list_start(job: &[u8], l: Layout, plan: &[u8])
-    requires { ⌜ Fit (now job) l ⌝ }
+// The line of a place.
+fn list_place(out: &mut [u8], at: usize, job: &[u8], plan: &[u8], p: Place) -> usize
+    ensures { λ r. ⌜ Put (now (out .entry)) at
+        (advised-line (now (job .entry)) (now (plan .entry)) (p .state) (p .goal))
+        (now (out .exit)) r ⌝ }
 {
-    let Moved::To(p) = Place { state: 0, goal: 0 }.start(job) else {
-        return;
-    };
-    let Advised::Says {
-        value,
-        action: _,
-        number: _,
-    } = p.advice_read(job, l, plan)
-    else {
-        return;
-    };
-    let mut line = [0u8; 64];
-    let at = put_text(&mut line, 0, b"start ");
-    let at = put_place(&mut line, at, p);
-    let at = put_value(&mut line, at, value);
-    end_line(&mut line, at);
-}
-
-// The line of a place: its value, the action and the number.
-fn list_place(job: &[u8], l: Layout, plan: &[u8], p: Place)
-    requires { ⌜ Fit (now job) l ⌝ }
-{
-    let Advised::Says {
-        value,
-        action,
-        number,
-    } = p.advice_read(job, l, plan)
-    else {
-        return;
-    };
-    let mut line = [0u8; 64];
-    let at = put_place(&mut line, 0, p);
-    let at = put_value(&mut line, at, value);
-    let at = put(&mut line, at, b' ');
-    let at = put_action(&mut line, at, action);
-    let at = put(&mut line, at, b' ');
-    let at = put_number(&mut line, at, number as u32);
-    end_line(&mut line, at);
+    match p.advice(job, plan) {
+        Advised::Refused(why) => text::put_refusal(out, at, why),
+        Advised::Says {
+            value,
+            action,
+            number,
+        } => text::put_entry(out, at, p.state, p.goal, value, action, number),
+    }
 }
 
 // The places of one state.
-fn list_state(job: &[u8], l: Layout, plan: &[u8], state: u32)
-    requires { ⌜ Fit (now job) l ⌝ }
+fn list_state(out: &mut [u8], at: usize, job: &[u8], plan: &[u8], state: u32, goals: u32) -> usize
+    ensures { λ r. ⌜ Put (now (out .entry)) at
+        (each (upto goals) (advised-line (now (job .entry)) (now (plan .entry)) state))
+        (now (out .exit)) r ⌝ }
 {
+    let mut next = at;
     let mut goal: u32 = 0;
-    while (goal as usize) < l.goals {
-        list_place(job, l, plan, Place { state, goal });
+    while goal < goals {
+        next = list_place(out, next, job, plan, Place { state, goal });
         goal += 1;
     }
+    next
 }
 
 // Every place, state by state.
-fn list_places(job: &[u8], l: Layout, plan: &[u8])
-    requires { ⌜ Fit (now job) l ⌝ }
+fn list_states(out: &mut [u8], at: usize, job: &[u8], plan: &[u8], states: u32, goals: u32) -> usize
+    ensures { λ r. ⌜ Put (now (out .entry)) at
+        (lines (advised-line (now (job .entry)) (now (plan .entry))) states goals)
+        (now (out .exit)) r ⌝ }
 {
+    let mut next = at;
     let mut state: u32 = 0;
-    while (state as usize) < l.states {
-        list_state(job, l, plan, state);
+    while state < states {
+        next = list_state(out, next, job, plan, state, goals);
         state += 1;
+    }
+    next
+}
+
+// The first line, and every place.
+fn list_planned(
+    out: &mut [u8],
+    at: usize,
+    job: &[u8],
+    plan: &[u8],
+    states: u32,
+    goals: u32,
+) -> usize
+    ensures { λ r. ⌜ Put (now (out .entry)) at
+        (started-line (now (job .entry)) (now (plan .entry))
+        ++ lines (advised-line (now (job .entry)) (now (plan .entry))) states goals)
+        (now (out .exit)) r ⌝ }
+{
+    let next = list_start(out, at, job, plan);
+    list_states(out, next, job, plan, states, goals)
+}
+
+// Plans the job, and puts what is to be printed at the beginning of the buffer.
+fn list(out: &mut [u8], job: &[u8], plan: &mut [u8]) -> usize
+    ensures { λ r. ⌜ Printed (now (job .entry)) (now (plan .entry)) (now (out .entry)) (now (out .exit)) r ⌝ }
+{
+    match labelling::plan::plan(job, plan) {
+        Planned::Refused(why) => text::put_refusal(out, 0, why),
+        Planned::Done => match job::accept::read(job) {
+            Reading::Refused(why) => text::put_refusal(out, 0, why),
+            Reading::Job(l) => list_planned(out, 0, job, plan, l.states as u32, l.goals as u32),
+        },
     }
 }
 
-fn list(job: &[u8], plan: &mut [u8]) {
-    match labelling::plan::plan(job, plan) {
-        Planned::Refused(why) => refused(why),
-        Planned::Done => match job::accept::read(job) {
-            Reading::Refused(why) => refused(why),
-            Reading::Job(l) => {
-                list_start(job, l, plan);
-                list_places(job, l, plan);
-            }
-        },
-    }
+// The same in a buffer that has room for every text: its first bytes, as many as are answered, are what is to be printed.
+fn list_whole(out: &mut [u8; ROOM], job: &[u8], plan: &mut [u8]) -> usize
+    ensures { λ r. ⌜ Counts r (now (out .exit)) ⌝ }
+    ensures { λ r. ⌜ Prints (now (job .entry)) (now (plan .entry)) (take r (now (out .exit))) ⌝ }
+{
+    list(out, job, plan)
 }
 
 fn main() {
     let mut job = [0u8; 16384];
     let n = io::read_full(libc::STDIN_FILENO, &mut job);
     let mut plan = [0u8; 16384];
-    list(&job[..n], &mut plan);
+    let mut out = [0u8; ROOM];
+    let k = list_whole(&mut out, &job[..n], &mut plan);
+    io::write_all(libc::STDOUT_FILENO, &out[..k]);
 }

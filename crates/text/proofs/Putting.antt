@@ -92,7 +92,8 @@ as-put {l} {at} {w} b n = record { bytes = b ∙ laid-is l at w; position = n �
 -- One text after another is both as one text, also where the line has no room for all of it.
 pub put-then : {l : List ℕ} {at : ℕ} {v w m n : List ℕ} {p q : ℕ} → Put l at v m p → Put m p w n q → Put l at (v ++ w) n q
 put-then {l} {at} {v} {w} a b =
-    as-put (laid-of b ∙ rw (laid-of a, reached-of a) (laid-laid l at v w)) (reached-of b ∙ rw (laid-of a, reached-of a) (reached-reached l at v w))
+    as-put (laid-of b ∙ rw (laid-of a, reached-of a) (laid-laid l at v w))
+    (reached-of b ∙ rw (laid-of a, reached-of a) (reached-reached l at v w))
 
 -- the same where the first text is two words with a space between them
 pub put-place-then : {l m n w : List ℕ} {at p q : ℕ} (u v : List ℕ) → Put l at (u ++ (32 ∷ v)) m p → Put m p w n q

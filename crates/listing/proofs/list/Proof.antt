@@ -1,8 +1,9 @@
--- `list` is safe: what reading gives fits the job.
-use mathlib.Core.Path.{sym, ap, _∙_}
-use Rattle.job.specs.Reading.{reading-figures}
-use Rattle.job.proofs.Readings.{read-fit}
+-- `list` meets its contract: a refusal's line, or the listing of the plan that planning leaves.
+use native.Mathlib.Omega.{arith}
 use borrow.Author.Needs.{needs}
+use Rattle.job.proofs.Asking.{few-states, few-goals}
+use Rattle.cabinet.proofs.Answering.{was-read}
+use Rattle.listing.proofs.Listings.{printed-refusal, read-planned, printed-listing}
 use Rattle.listing.proofs.list.Statement.{statement}
 use Rattle.listing.proofs.list.Tie as tie
 
@@ -12,8 +13,8 @@ plan-requires c κs = search needs
 enum-known-why : tie.Need-enum-known-why
 enum-known-why c = search needs
 
-refused-requires : tie.Need-refused-requires
-refused-requires c κs = search needs
+put-refusal-requires : tie.Need-put-refusal-requires
+put-refusal-requires c κs = search needs
 
 enum-told : tie.Need-enum-told
 enum-told c = search needs
@@ -24,38 +25,67 @@ read-requires c κs = search needs
 enum-known-why-2 : tie.Need-enum-known-why-2
 enum-known-why-2 c = search needs
 
-refused-requires-2 : tie.Need-refused-requires-2
-refused-requires-2 c κs = search needs
+put-refusal-requires-2 : tie.Need-put-refusal-requires-2
+put-refusal-requires-2 c κs = search needs
 
 enum-known-l : tie.Need-enum-known-l
 enum-known-l c = search needs
 
-list-start-requires : tie.Need-list-start-requires
-list-start-requires c κs =
-    read-fit _ _ (ap reading-figures (sym (c .before .before .l .given .1)) ∙ c .before .before .before .before .read .ensures)
+cast-list-planned : tie.Need-cast-list-planned
+cast-list-planned c =
+    let d = c .before .before .before .before in
+    let read = d .before .before in
+    let start = read .before .before .before .before .before .before .before .before .before .before in
+    let f = was-read (start .args .job .now) (d .l .given .1) (read .read .ensures) in
+    omega (arith, few-states f)
 
-list-places-requires : tie.Need-list-places-requires
-list-places-requires c κs =
-    read-fit _ _ (ap reading-figures
-    (sym (c .before .before .before .before .l .given .1)) ∙ c .before .before .before .before .before .before .read .ensures)
+cast-list-planned-2 : tie.Need-cast-list-planned-2
+cast-list-planned-2 c =
+    let d = c .before .before .before .before .before in
+    let read = d .before .before in
+    let start = read .before .before .before .before .before .before .before .before .before .before in
+    let f = was-read (start .args .job .now) (d .l .given .1) (read .read .ensures) in
+    omega (arith, few-goals f)
+
+list-planned-requires : tie.Need-list-planned-requires
+list-planned-requires c κs = search needs
 
 same-length : tie.Need-same-length
 same-length c = search needs
 
-returns : tie.Need-returns
-returns c = search needs
-
 same-length-2 : tie.Need-same-length-2
 same-length-2 c = search needs
 
-returns-2 : tie.Need-returns-2
-returns-2 c = search needs
+returns : tie.Need-returns
+returns c =
+    let d = c .before .before .before .before .before in
+    printed-refusal (d .before .before .before .before .plan .ensures) (d .why .given .1) (c .before .before .put-refusal .ensures)
 
 same-length-3 : tie.Need-same-length-3
 same-length-3 c = search needs
 
+same-length-4 : tie.Need-same-length-4
+same-length-4 c = search needs
+
+returns-2 : tie.Need-returns-2
+returns-2 c =
+    let d = c .before .before .before .before .before in
+    let e = d .before .before .before in
+    read-planned (e .before .before .before .before .plan .ensures) (e .enum-told .given .1) (d .why2 .given .1)
+    (d .before .before .read .ensures)
+
+same-length-5 : tie.Need-same-length-5
+same-length-5 c = search needs
+
+same-length-6 : tie.Need-same-length-6
+same-length-6 c = search needs
+
 returns-3 : tie.Need-returns-3
-returns-3 c = search needs
+returns-3 c =
+    let d = c .before .before .before .before .before .before .before .before in
+    let e = d .before .before .before in
+    printed-listing (e .before .before .before .before .plan .ensures) (e .enum-told .given .1) (d .l .given .1)
+    (d .before .before .read .ensures) (c .before .before .list-planned .ensures)
 
 pub list-spec : {M : Type 1} → statement M
 list-spec =
@@ -63,17 +93,21 @@ list-spec =
     (tie.spec
     plan-requires
     enum-known-why
-    refused-requires
+    put-refusal-requires
     enum-told
     read-requires
     enum-known-why-2
-    refused-requires-2
+    put-refusal-requires-2
     enum-known-l
-    list-start-requires
-    list-places-requires
+    cast-list-planned
+    cast-list-planned-2
+    list-planned-requires
     same-length
-    returns
     same-length-2
-    returns-2
+    returns
     same-length-3
+    same-length-4
+    returns-2
+    same-length-5
+    same-length-6
     returns-3)

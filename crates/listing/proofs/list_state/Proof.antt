@@ -1,37 +1,52 @@
--- `list_state` is safe: goal stays below its count.
+-- `list_state` meets its contract: a turn puts the line of one more goal state.
 use Prim.Native.Nat.{_≤_, _-_}
 use native.Mathlib.Omega.{arith}
 use borrow.Author.Needs.{needs}
-use Rattle.job.proofs.Asking.{few-goals}
+use Rattle.rules.specs.Job.{upto, each}
+use Rattle.text.specs.Put.{Put}
+use Rattle.text.proofs.Putting.{put-none, put-length}
+use Rattle.listing.specs.Listing.{advised-line}
+use Rattle.listing.proofs.Telling.{put-next, put-upto}
 use Rattle.listing.proofs.list_state.Statement.{statement}
 use Rattle.listing.proofs.list_state.Tie as tie
 
 abbrev Inv-loop : tie.InvT-loop
-Inv-loop job l plan state goal₀ goal = goal ≤ l .goals
+Inv-loop out₀ at job plan state goals next₀ goal₀ out next goal =
+    (goal ≤ goals) × Put out₀ at (each (upto goal) (advised-line job plan state)) out next
 
 abbrev μ-loop : tie.MeasureT-loop
-μ-loop job l plan state goal₀ goal = l .goals - goal
+μ-loop out₀ at job plan state goals next₀ goal₀ out next goal = goals - goal
 
 loop-holds : tie.Need-loop-holds Inv-loop μ-loop
-loop-holds c = omega arith
-
-cast-if1 : tie.Need-cast-if1 Inv-loop μ-loop
-cast-if1 c = omega (arith, few-goals (c .before .before .before .pre))
+loop-holds c = (omega arith, put-none _ _)
 
 list-place-requires : tie.Need-list-place-requires Inv-loop μ-loop
-list-place-requires c κs = c .before .before .before .before .before .pre
+list-place-requires c κs = search needs
 
 add-goal : tie.Need-add-goal Inv-loop μ-loop
-add-goal c = omega (arith, few-goals (c .before .before .before .before .before .before .pre))
+add-goal c = search needs
 
 loop-less : tie.Need-loop-less Inv-loop μ-loop
-loop-less c = omega arith
+loop-less c = search needs
 
 loop-again : tie.Need-loop-again Inv-loop μ-loop
-loop-again c = omega arith
+loop-again c =
+    let turn = c .before .before .before .before .before in
+    let a = turn .before .before .before .before .args in (
+      omega arith,
+      put-next (advised-line (a .job .now) (a .plan .now) (a .state)) (turn .loop .goal) (turn .loop .inv .1)
+          (c .before .before .list-place .ensures),
+    )
+
+same-length : tie.Need-same-length Inv-loop μ-loop
+same-length c = put-length (c .before .loop .inv .1)
 
 returns : tie.Need-returns Inv-loop μ-loop
-returns c = search needs
+returns c =
+    let a = c .before .before .before .before .before .args in
+    put-upto (advised-line (a .job .now) (a .plan .now) (a .state)) (c .before .loop .goal) (a .goals)
+    (c .before .loop .inv .0) (c .loop-test .left)
+    (c .before .loop .inv .1)
 
 pub list-state-spec : {M : Type 1} → statement M
 list-state-spec =
@@ -40,9 +55,9 @@ list-state-spec =
     Inv-loop
     μ-loop
     loop-holds
-    cast-if1
     list-place-requires
     add-goal
     loop-less
     loop-again
+    same-length
     returns)

@@ -43,7 +43,8 @@ returns c =
     let c2 = c3 .before .before .before .before in
     let c1 = c2 .before .before .before .before in
     let a = c1 .before .before .before .args in
-    put-place-then (decimal (a .state)) (decimal (a .goal)) (c1 .put-place .ensures) (put-then (c2 .put .ensures) (put-then (c3 .put-value .ensures)
+    put-place-then (decimal (a .state)) (decimal (a .goal)) (c1 .put-place .ensures)
+    (put-then (c2 .put .ensures) (put-then (c3 .put-value .ensures)
     (put-then (c4 .put2 .ensures) (put-then (c5 .put-action .ensures)
     (put-then (c6 .put3 .ensures) (put-then (c7 .put-number .ensures) (c8 .put4 .ensures)))))))
 

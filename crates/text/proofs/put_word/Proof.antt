@@ -8,9 +8,6 @@ use Rattle.text.specs.Put.{Put}
 use Rattle.text.proofs.Putting.{put-none, put-more, put-all, put-length}
 use Rattle.text.proofs.put_word.Statement.{statement}
 use Rattle.text.proofs.put_word.Tie as tie
-use Rattle.text.proofs.put_word.Reads as reads
-use Rattle.text.proofs.put_word.Lts as lts
-use Rattle.text.proofs.put.Reads as put-reads
 
 abbrev Inv-loop : tie.InvT-loop
 Inv-loop line₀ at word next₀ i₀ line next i = (i ≤ length word) × Put line₀ at (take i word) line next

@@ -1,0 +1,145 @@
+-- No text that is to be printed is longer than 94,229 bytes: the first line has at most 21, each of 4,096 others at most 23.
+use Prim.Native.Nat.{ℕ, zero, suc, _+_, _*_, _≤_, _<_}
+use mathlib.Core.Bool.{true}
+use mathlib.Core.List.{List, [], _∷_, _++_}
+use mathlib.Core.Logic.{_↔_, _⊎_, ⊎-elim}
+use mathlib.Core.Path.{_≡_, refl, sym, ap, subst⁻¹, _∙_}
+use native.Mathlib.Nat.{mul-le-mul, suc-mul, le-refl, le-trans}
+use native.Mathlib.Omega.{arith}
+use borrow.Author.Tests.{ne-eqb}
+use lib.ListN.{length, take, drop, length-append}
+use lib.Seq.{length-take-le, take-append-seam}
+use Rattle.io.specs.Counts.{Counts}
+use Rattle.rules.specs.Game.{Inside}
+use Rattle.rules.specs.Job.{place, places, start, upto, each, arena}
+use Rattle.rules.specs.Bytes.{said}
+use Rattle.rules.specs.Plan.{blank, due, shaped}
+use Rattle.rules.specs.Calls.{Planning, refused, no-room, overrun, planned}
+use Rattle.rules.specs.declared.entry.Entry.{Entry}
+use Rattle.rules.specs.declared.place.Place.{Place}
+use Rattle.rules.proofs.Tests.{and-iff, or-iff, ltb-iff, leb-iff, eqb-iff}
+use Rattle.rules.proofs.Numbers.{refusal-range}
+use Rattle.rules.proofs.Arenas.{inside-iff, start-inside}
+use Rattle.labelling.proofs.Demands.{planned-right}
+use Rattle.cabinet.proofs.Advising.{right-shaped}
+use Rattle.text.specs.Put.{Put}
+use Rattle.text.specs.Lines.{decimal, value-word, action-word, entry-line, start-line, refusal-line}
+use Rattle.text.proofs.Digits.{decimal-length}
+use Rattle.text.proofs.Putting.{put-whole}
+use Rattle.listing.specs.Listing.{planned-entry, first-line, place-line, lines, listing, Prints, refuses, lists, Printed}
+use Rattle.listing.proofs.Telling.{each-last}
+use Rattle.listing.proofs.Listings.{keeps}
+
+-- ---- an entry's words
+
+-- at most two bytes for the action, at most four for the number
+pub record Few (e : Entry) : Type 0 where
+  pub action : length (action-word (e .action)) ≤ 2
+  pub number : length (decimal (e .number)) ≤ 4
+
+few-blank : (e : Entry) → (e .action ≡ 255) × (e .number ≡ 0) → Few e
+few-blank e h = record {
+  action = rw (h .0) (omega arith);
+  number = decimal-length (e .number) 3 (omega arith);
+}
+
+few-due : (A n : ℕ) (e : Entry) → A ≤ 16 → n ≤ 4096 → (e .action < A) × ((1 ≤ e .number) × (e .number < n)) → Few e
+few-due A n e a m h = record {
+  action = rw (ne-eqb (e .action) 255 (λ z. omega arith)) (decimal-length (e .action) 1 (omega arith));
+  number = decimal-length (e .number) 3 (omega arith);
+}
+
+module _ (A n : ℕ) (e : Entry) (a : A ≤ 16) (m : n ≤ 4096) where
+  blank-iff : (blank e ≡ true) ↔ ((e .action ≡ 255) × (e .number ≡ 0))
+  blank-iff = and-iff (eqb-iff (e .action) 255) (eqb-iff (e .number) 0)
+
+  due-iff : (due A n e ≡ true) ↔ ((e .action < A) × ((1 ≤ e .number) × (e .number < n)))
+  due-iff = and-iff (ltb-iff (e .action) A) (and-iff (leb-iff 1 (e .number)) (ltb-iff (e .number) n))
+
+  shaped-few : shaped A n e ≡ true → Few e
+  shaped-few h =
+      ⊎-elim (λ x. few-blank e (x .1))
+      (⊎-elim (λ x. few-blank e (x .1)) (⊎-elim (λ x. few-due A n e a m (x .1)) (λ x. few-due A n e a m (x .1))))
+      (or-iff (and-iff (eqb-iff (e .value) 0) blank-iff)
+      (or-iff (and-iff (eqb-iff (e .value) 2) blank-iff)
+      (or-iff (and-iff (eqb-iff (e .value) 2) due-iff) (and-iff (eqb-iff (e .value) 1) due-iff))) .0 h)
+
+short-value : (v : ℕ) → length (value-word v) ≤ 7
+short-value zero = omega arith
+short-value (suc zero) = omega arith
+short-value (suc (suc v)) = omega arith
+
+-- ---- the lines
+
+short-entry : (s q : ℕ) (e : Entry) → s < 128 → q < 32 → Few e → length (entry-line s q (e .value) (e .action) (e .number)) ≤ 23
+short-entry s q e hs hq f =
+    simp length-append
+    (omega (arith, decimal-length s 2 (omega arith), decimal-length q 1 (omega arith), short-value (e .value), f .action, f .number))
+
+short-start : (s q v : ℕ) → s < 128 → q < 32 → length (start-line s q v) ≤ 21
+short-start s q v hs hq =
+    simp length-append (omega (arith, decimal-length s 2 (omega arith), decimal-length q 1 (omega arith), short-value v))
+
+short-refusal : (r : ℕ) → r < 1000 → length (refusal-line (r ∷ [])) ≤ 12
+short-refusal r h = simp length-append (omega (arith, decimal-length r 2 (omega arith)))
+
+short-each : (f : ℕ → List ℕ) (k n : ℕ) → ((i : ℕ) → i < n → length (f i) ≤ k) → length (each (upto n) f) ≤ n * k
+short-each f k zero h = omega arith
+short-each f k (suc n) h =
+    let last : length (each (upto n ++ (n ∷ [])) f) ≡ length (each (upto n) f) + length (f n) =
+    ap length (each-last f (upto n) n) ∙ length-append (each (upto n) f) (f n) in
+    omega (arith, last, suc-mul n k, short-each f k n (λ i l. h i (omega arith)), h n (omega arith))
+
+module _ {b before after : List ℕ} (done : Planning b before 0 after) where
+  entry-few : (x : Place) → Inside (arena (said b)) x → Few (planned-entry (said b) after x)
+  entry-few x i =
+      let k = keeps done in
+      shaped-few (said b .actions) (places (said b)) (planned-entry (said b) after x) (k .few-actions)
+      (mul-le-mul (k .few-states) (k .few-goals))
+      (right-shaped k x i (planned-right done refl x i))
+
+  short-lines : length (lines (place-line (said b) after) (said b .states) (said b .goals)) ≤ 94208
+  short-lines =
+      let k = keeps done in
+      let S = said b .states in
+      let Q = said b .goals in
+      let line : (s q : ℕ) → s < S → q < Q → length (place-line (said b) after s q) ≤ 23 =
+      λ s q hs hq.
+      short-entry s q (planned-entry (said b) after (place s q)) (omega (arith, k .few-states)) (omega (arith, k .few-goals))
+      (entry-few (place s q) (inside-iff (said b) (place s q) .1 (hs, hq))) in
+      le-trans
+      (short-each (λ s. each (upto Q) (place-line (said b) after s)) (Q * 23) S
+      (λ s hs. short-each (place-line (said b) after s) 23 Q (λ q hq. line s q hs hq)))
+      (mul-le-mul (k .few-states) (mul-le-mul (k .few-goals) (le-refl 23)))
+
+  short-first : length (first-line (said b) after) ≤ 21
+  short-first =
+      let k = keeps done in
+      let x = start (said b) in
+      let (hs, hq) = inside-iff (said b) x .0 (start-inside b k) in
+      short-start (x .state) (x .goal) (planned-entry (said b) after x .value) (omega (arith, k .few-states)) (omega (arith, k .few-goals))
+
+refusal-few : {b before after : List ℕ} {r : ℕ} → Planning b before r after → r < 1000
+refusal-few {b} (refused n) = omega (arith, refusal-range b)
+refusal-few (no-room e l) = omega arith
+refusal-few (overrun e l o) = omega arith
+refusal-few (planned e l n p) = omega arith
+
+pub prints-short : {b before text : List ℕ} → Prints b before text → length text ≤ 94229
+prints-short (refuses {r} p z) = omega (arith, short-refusal r (refusal-few p))
+prints-short {b} (lists {after} done) =
+    rw (length-append (first-line (said b) after) (lines (place-line (said b) after) (said b .states) (said b .goals)))
+    (omega (arith, short-first done, short-lines done))
+
+-- So in a buffer of that length the first n bytes are the text.
+pub printed-whole : {b before out left : List ℕ} {n : ℕ} → Printed b before out left n → 94229 ≤ length out
+    → Counts n left × Prints b before (take n left)
+printed-whole {b} {before} {out} {left} {n} p room =
+    let t = p .text in
+    let (bytes, next) = put-whole (omega (arith, prints-short (p .right))) (p .put) in
+    let rest = drop (0 + length t) out in
+    let is : left ≡ t ++ rest = bytes in
+    let count : n ≡ length t = omega (arith, next) in
+    let text : take n left ≡ t = ap (λ (k : ℕ). take k left) count ∙ ap (take (length t)) is ∙ take-append-seam t rest in
+    let few : n ≤ length left = omega (arith, ap length is, length-append t rest) in
+    ((few, sym (length-take-le n left few)), subst⁻¹ (Prints b before) text (p .right))

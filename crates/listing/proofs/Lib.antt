@@ -1,0 +1,4 @@
+-- The laws that belong to no one function.
+pub mod Telling
+pub mod Listings
+pub mod Lengths

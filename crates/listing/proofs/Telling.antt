@@ -1,0 +1,79 @@
+-- The text of an answer, by the case that was matched; and the loops over states and goal states.
+use Prim.Native.Nat.{ℕ, zero, suc, _+_, _≤_, _<_}
+use mathlib.Core.List.{List, [], _∷_, _++_, append-assoc, append-nil}
+use mathlib.Core.Path.{_≡_, refl, sym, ap, subst, _∙_}
+use native.Mathlib.Numerals.{add-one}
+use native.Mathlib.Omega.{arith}
+use lib.Dec.{eqb, eqb·suc-zero}
+use Rattle.rules.specs.Job.{upto, each}
+use Rattle.rules.specs.Answers.{refusal-number, advised-figures}
+use Rattle.rules.specs.declared.answer.Advised.{Advised}
+use Rattle.rules.specs.declared.answer.Refusal.{Refusal}
+use Rattle.rules.specs.Calls.{advised}
+use Rattle.rules.proofs.Figures.{refusal-some}
+use Rattle.cabinet.specs.Figures.{moved-figures}
+use Rattle.cabinet.specs.declared.place.Moved.{Moved}
+use Rattle.cabinet.specs.declared.place.Place.{Place}
+use Rattle.text.specs.Put.{Put}
+use Rattle.text.specs.Lines.{refusal-line}
+use Rattle.text.proofs.Putting.{put-then}
+use Rattle.listing.specs.Listing.{or-refused, advice-line, value-line, moved-line}
+
+-- An answer x was matched as y, its figures are f, and the text of y's figures was put: it is the text of f.
+pub told : {X F : Type 0} (figures : X → F) (text : F → List ℕ) {l m : List ℕ} {at n : ℕ} {x y : X} {f : F} {t : List ℕ} → x ≡ y
+    → figures x ≡ f → text (figures y) ≡ t → Put l at t m n → Put l at (text f) m n
+told figures text {l} {m} {at} {n} e is same put =
+    subst (λ (w : List ℕ). Put l at w m n) (sym same ∙ sym (ap (λ z. text (figures z)) e) ∙ ap text is) put
+
+pub told-refused : {X F : Type 0} (figures : X → F) (text : F → List ℕ) (refuse : Refusal → X)
+    → ((r : Refusal) → text (figures (refuse r)) ≡ refusal-line (refusal-number r ∷ []))
+    → {l m : List ℕ} {at n : ℕ} {x : X} {r : Refusal} {f : F} → x ≡ refuse r → figures x ≡ f
+    → Put l at (refusal-line (refusal-number r ∷ [])) m n → Put l at (text f) m n
+told-refused figures text refuse same {r = r} e is put = told figures text e is (same r) put
+
+-- a refusal's number is not 0, so its line is the text
+refused-line : (r : Refusal) (t : List ℕ) → or-refused (refusal-number r) t ≡ refusal-line (refusal-number r ∷ [])
+refused-line r t = rw (refusal-some r .1, eqb·suc-zero (refusal-some r .0))
+
+pub advice-refused : (s q : ℕ) (r : Refusal) → advice-line s q (advised-figures (Advised.Refused r)) ≡ refusal-line (refusal-number r ∷ [])
+unfolding advice-line
+advice-refused s q r = refused-line r _
+
+pub value-refused : (s q : ℕ) (r : Refusal) → value-line s q (advised-figures (Advised.Refused r)) ≡ refusal-line (refusal-number r ∷ [])
+unfolding value-line
+value-refused s q r = refused-line r _
+
+pub moved-refused : (b p : List ℕ) (r : Refusal) → moved-line b p (moved-figures (Moved.Refused r)) ≡ refusal-line (refusal-number r ∷ [])
+unfolding moved-line
+moved-refused b p r = refused-line r _
+
+-- where starting is not refused, advice answers of the starting place
+pub moved-says : (b p : List ℕ) (x : Place)
+    → moved-line b p (moved-figures (Moved.To x)) ≡ value-line (x .state) (x .goal) (advised b p (x .state) (x .goal))
+unfolding moved-line
+moved-says b p x = refl
+
+-- ---- the numbers below n in order
+
+pub each-last : (f : ℕ → List ℕ) (is : List ℕ) (i : ℕ) → each (is ++ (i ∷ [])) f ≡ each is f ++ f i
+each-last f [] i = append-nil (f i)
+each-last f (k ∷ is) i = ap (λ (t : List ℕ). f k ++ t) (each-last f is i) ∙ sym (append-assoc (f k) (each is f) (f i))
+
+-- one turn of a loop that puts a text for each number below n
+pub put-next : (f : ℕ → List ℕ) (k : ℕ) {l m n : List ℕ} {at p q : ℕ} → Put l at (each (upto k) f) m p → Put m p (f k) n q
+    → Put l at (each (upto (k + 1)) f) n q
+put-next f k a b = rw (add-one k, each-last f (upto k) k) (put-then a b)
+
+pub each-same : (f g : ℕ → List ℕ) (n : ℕ) → ((k : ℕ) → k < n → f k ≡ g k) → each (upto n) f ≡ each (upto n) g
+each-same f g zero h = refl
+each-same f g (suc n) h =
+    each-last f (upto n) n
+    ∙ (λ i. each-same f g n (λ k l. h k (omega arith)) i ++ h n (omega arith) i)
+    ∙ sym (each-last g (upto n) n)
+
+-- the loop's end
+pub put-upto : (f : ℕ → List ℕ) (k n : ℕ) {l m : List ℕ} {at p : ℕ} → k ≤ n → n ≤ k → Put l at (each (upto k) f) m p
+    → Put l at (each (upto n) f) m p
+put-upto f k n {l} {m} {at} {p} a b put =
+    let e : k ≡ n = omega arith in
+    subst (λ (i : ℕ). Put l at (each (upto i) f) m p) e put

@@ -1,0 +1,57 @@
+-- `list_place` meets its contract: each answer of advice has its line.
+use mathlib.Core.Path.{refl}
+use borrow.Author.Needs.{needs}
+use Rattle.rules.specs.Answers.{advised-figures}
+use Rattle.rules.specs.declared.answer.Advised.{Advised}
+use Rattle.listing.specs.Listing.{advice-line}
+use Rattle.listing.proofs.Telling.{told, told-refused, advice-refused}
+use Rattle.listing.proofs.list_place.Statement.{statement}
+use Rattle.listing.proofs.list_place.Tie as tie
+
+advice-requires : tie.Need-advice-requires
+advice-requires c κs = search needs
+
+enum-known-why : tie.Need-enum-known-why
+enum-known-why c = search needs
+
+put-refusal-requires : tie.Need-put-refusal-requires
+put-refusal-requires c κs = search needs
+
+enum-known-value : tie.Need-enum-known-value
+enum-known-value c = search needs
+
+put-entry-requires : tie.Need-put-entry-requires
+put-entry-requires c κs = search needs
+
+same-length : tie.Need-same-length
+same-length c = search needs
+
+returns : tie.Need-returns
+returns c =
+    let d = c .before .before .before .before .before in
+    told-refused advised-figures (advice-line _ _) Advised.Refused (advice-refused _ _) (d .why .given .1)
+    (d .before .before .advice .ensures) (c .before .before .put-refusal .ensures)
+
+same-length-2 : tie.Need-same-length-2
+same-length-2 c = search needs
+
+returns-2 : tie.Need-returns-2
+unfolding advice-line
+returns-2 c =
+    let d = c .before .before .before .before .before in
+    told advised-figures (advice-line _ _) (d .value .given .1) (d .before .before .advice .ensures) refl
+    (c .before .before .put-entry .ensures)
+
+pub list-place-spec : {M : Type 1} → statement M
+list-place-spec =
+    tie.close
+    (tie.spec
+    advice-requires
+    enum-known-why
+    put-refusal-requires
+    enum-known-value
+    put-entry-requires
+    same-length
+    returns
+    same-length-2
+    returns-2)
