@@ -2,7 +2,7 @@
 use Prim.Native.Nat.{ℕ, zero, suc, _+_, _*_, _≤_, _<_}
 use mathlib.Core.Bool.{true}
 use mathlib.Core.List.{List, [], _∷_, _++_}
-use mathlib.Core.Logic.{_↔_, _⊎_, ⊎-elim}
+use mathlib.Core.Logic.{_↔_, ⊎-elim}
 use mathlib.Core.Path.{_≡_, refl, sym, ap, subst⁻¹, _∙_}
 use native.Mathlib.Nat.{mul-le-mul, suc-mul, le-refl, le-trans}
 use native.Mathlib.Omega.{arith}
@@ -22,11 +22,10 @@ use Rattle.rules.proofs.Numbers.{refusal-range}
 use Rattle.rules.proofs.Arenas.{inside-iff, start-inside}
 use Rattle.labelling.proofs.Demands.{planned-right}
 use Rattle.cabinet.proofs.Advising.{right-shaped}
-use Rattle.text.specs.Put.{Put}
 use Rattle.text.specs.Lines.{decimal, value-word, action-word, entry-line, start-line, refusal-line}
 use Rattle.text.proofs.Digits.{decimal-length}
 use Rattle.text.proofs.Putting.{put-whole}
-use Rattle.listing.specs.Listing.{planned-entry, first-line, place-line, lines, listing, Prints, refuses, lists, Printed}
+use Rattle.listing.specs.Listing.{planned-entry, first-line, place-line, lines, Prints, refuses, lists, Printed}
 use Rattle.listing.proofs.Telling.{each-last}
 use Rattle.listing.proofs.Listings.{keeps}
 

@@ -2,3 +2,5 @@
 pub mod Telling
 pub mod Listings
 pub mod Lengths
+pub mod Printing
+pub mod Plate

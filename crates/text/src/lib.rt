@@ -1,5 +1,5 @@
 // Text put together in a buffer: bytes, words, numbers, and the lines that the programs print.
-ghost use mathlib.Core.List.{List, [], _∷_, _++_};
+ghost use mathlib.Core.List.{[], _∷_, _++_};
 ghost use Rattle.rules.specs.Answers.{value-number, refusal-number};
 ghost use Rattle.text.specs.Put.{Put};
 ghost use Rattle.text.specs.Lines.{decimal, value-word, action-word, entry-line, start-line, refusal-line};

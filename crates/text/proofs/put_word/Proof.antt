@@ -1,6 +1,5 @@
 -- `put_word` meets its contract: after i turns the word's first i bytes are put.
 use Prim.Native.Nat.{_≤_, _-_}
-use mathlib.Core.Path.{_≡_}
 use native.Mathlib.Omega.{arith}
 use lib.ListN.{length, take}
 use borrow.Author.Needs.{needs}
