@@ -5,7 +5,7 @@ use mathlib.Core.List.{List, [], _∷_, _++_}
 use mathlib.Core.Path.{_≡_, refl, sym, ap, _∙_}
 use native.Mathlib.Omega.{arith}
 use borrow.Author.Tests.{eq-eqb, lt-ltb}
-use Rattle.rules.specs.Job.{start, upto, each}
+use Rattle.rules.specs.Job.{start}
 use Rattle.rules.specs.Bytes.{refusal, said}
 use Rattle.rules.specs.Keeps.{Keeps}
 use Rattle.rules.specs.Answers.{refusal-number, planned-figure}
@@ -27,7 +27,7 @@ use Rattle.text.specs.Put.{Put}
 use Rattle.text.specs.Lines.{refusal-line}
 use Rattle.listing.specs.Listing.{first-line, place-line, lines, listing, advice-line, value-line, moved-line, advised-line}
 use Rattle.listing.specs.Listing.{started-line, refuses, lists, Printed}
-use Rattle.listing.proofs.Telling.{each-same}
+use Rattle.listing.proofs.Telling.{lines-same}
 
 module _ {b before after : List ℕ} (done : Planning b before 0 after) where
   pub keeps : Keeps b
@@ -40,13 +40,6 @@ module _ {b before after : List ℕ} (done : Planning b before 0 after) where
   unfolding advice-line
   line-told s q hs hq = ap (advice-line s q) (advice-planned done s q (place-is s q hs hq))
 
-  lines-told :
-      lines (advised-line b after) (said b .states) (said b .goals) ≡ lines (place-line (said b) after) (said b .states) (said b .goals)
-  lines-told =
-      each-same (λ s. each (upto (said b .goals)) (advised-line b after s)) (λ s. each (upto (said b .goals)) (place-line (said b) after s))
-      (said b .states)
-      (λ s hs. each-same (advised-line b after s) (place-line (said b) after s) (said b .goals) (λ q hq. line-told s q hs hq))
-
   first-told : started-line b after ≡ first-line (said b) after
   unfolding moved-line value-line
   first-told =
@@ -58,7 +51,9 @@ module _ {b before after : List ℕ} (done : Planning b before 0 after) where
 
   pub listing-told :
       started-line b after ++ lines (advised-line b after) (said b .states) (said b .goals) ≡ listing (said b) after
-  listing-told = λ i. first-told i ++ lines-told i
+  listing-told =
+      let rest = lines-same (advised-line b after) (place-line (said b) after) (said b .states) (said b .goals) line-told in
+      λ i. first-told i ++ rest i
 
 -- ---- what is left in the buffer, by what planning answered, x, and what reading answered, y
 

@@ -4,7 +4,7 @@ use mathlib.Core.List.{List, _++_}
 use mathlib.Core.Path.{_≡_, refl, ap, _∙_}
 use lib.ListN.{length}
 use Rattle.rules.specs.Game.{Inside}
-use Rattle.rules.specs.Job.{place, start, upto, each, arena}
+use Rattle.rules.specs.Job.{place, start, arena}
 use Rattle.rules.specs.Bytes.{said}
 use Rattle.rules.specs.Keeps.{Keeps}
 use Rattle.rules.specs.Calls.{Planning}
@@ -20,7 +20,7 @@ use Rattle.rules.proofs.Arenas.{inside-iff, start-inside, arena-lawful}
 use Rattle.labelling.proofs.Demands.{planned-exactly, planned-right}
 use Rattle.text.specs.Lines.{decimal-in, decimal, bytes, entry-line, start-line}
 use Rattle.listing.specs.Listing.{planned-entry, place-line, lines, listing, Prints, refuses, lists}
-use Rattle.listing.proofs.Telling.{each-same}
+use Rattle.listing.proofs.Telling.{lines-same}
 use Rattle.listing.proofs.Listings.{keeps}
 
 -- the same text, by the entries that the rounds give
@@ -48,11 +48,8 @@ module _ {b before after : List ℕ} (done : Planning b before 0 after) where
   unfolding rounds-listing
   listing-by-rounds =
       let x = start (said b) in
-      let Q = said b .goals in
       let first = ap (λ (e : Entry). start-line (x .state) (x .goal) (e .value)) (entry-by-rounds x (start-inside b (keeps done))) in
-      let rest =
-      each-same (λ s. each (upto Q) (place-line (said b) after s)) (λ s. each (upto Q) (rounds-line b s)) (said b .states)
-      (λ s hs. each-same (place-line (said b) after s) (rounds-line b s) Q (λ q hq. line-by-rounds s q hs hq)) in
+      let rest = lines-same (place-line (said b) after) (rounds-line b) (said b .states) (said b .goals) line-by-rounds in
       λ i. first i ++ rest i
 
 abbrev pub plate-text : List ℕ

@@ -17,7 +17,7 @@ use Rattle.cabinet.specs.declared.place.Place.{Place}
 use Rattle.text.specs.Put.{Put}
 use Rattle.text.specs.Lines.{refusal-line}
 use Rattle.text.proofs.Putting.{put-then}
-use Rattle.listing.specs.Listing.{or-refused, advice-line, value-line, moved-line}
+use Rattle.listing.specs.Listing.{lines, or-refused, advice-line, value-line, moved-line}
 
 -- An answer x was matched as y, its figures are f, and the text of y's figures was put: it is the text of f.
 pub told : {X F : Type 0} (figures : X → F) (text : F → List ℕ) {l m : List ℕ} {at n : ℕ} {x y : X} {f : F} {t : List ℕ} → x ≡ y
@@ -64,12 +64,16 @@ pub put-next : (f : ℕ → List ℕ) (k : ℕ) {l m n : List ℕ} {at p q : ℕ
     → Put l at (each (upto (k + 1)) f) n q
 put-next f k a b = rw (add-one k, each-last f (upto k) k) (put-then a b)
 
-pub each-same : (f g : ℕ → List ℕ) (n : ℕ) → ((k : ℕ) → k < n → f k ≡ g k) → each (upto n) f ≡ each (upto n) g
+each-same : (f g : ℕ → List ℕ) (n : ℕ) → ((k : ℕ) → k < n → f k ≡ g k) → each (upto n) f ≡ each (upto n) g
 each-same f g zero h = refl
 each-same f g (suc n) h =
     each-last f (upto n) n
     ∙ (λ i. each-same f g n (λ k l. h k (omega arith)) i ++ h n (omega arith) i)
     ∙ sym (each-last g (upto n) n)
+
+pub lines-same : (f g : ℕ → ℕ → List ℕ) (S Q : ℕ) → ((s q : ℕ) → s < S → q < Q → f s q ≡ g s q) → lines f S Q ≡ lines g S Q
+lines-same f g S Q h =
+    each-same (λ s. each (upto Q) (f s)) (λ s. each (upto Q) (g s)) S (λ s hs. each-same (f s) (g s) Q (λ q hq. h s q hs hq))
 
 -- the loop's end
 pub put-upto : (f : ℕ → List ℕ) (k n : ℕ) {l m : List ℕ} {at p : ℕ} → k ≤ n → n ≤ k → Put l at (each (upto k) f) m p

@@ -1,6 +1,6 @@
 // The listing: a job on standard input, and what its plan says of each place on standard output.
 ghost use mathlib.Core.List.{_++_};
-ghost use lib.ListN.{take};
+ghost use lib.ListN.{take, replicate};
 ghost use Rattle.io.specs.Counts.{Counts};
 ghost use Rattle.rules.specs.Job.{upto, each};
 ghost use Rattle.text.specs.Put.{Put};
@@ -127,11 +127,18 @@ fn list_whole(out: &mut [u8; ROOM], job: &[u8], plan: &mut [u8]) -> usize
     list(out, job, plan)
 }
 
+// Writes the text that is to be printed of the job: what is handed over here is what the listing prints.
+fn print(job: &[u8], text: &[u8])
+    requires { ⌜ Prints (now job) (replicate 16384 0) (now text) ⌝ }
+{
+    io::write_all(libc::STDOUT_FILENO, text);
+}
+
 fn main() {
     let mut job = [0u8; 16384];
     let n = io::read_full(libc::STDIN_FILENO, &mut job);
     let mut plan = [0u8; 16384];
     let mut out = [0u8; ROOM];
     let k = list_whole(&mut out, &job[..n], &mut plan);
-    io::write_all(libc::STDOUT_FILENO, &out[..k]);
+    print(&job[..n], &out[..k]);
 }
