@@ -18,9 +18,9 @@ use Rattle.rules.specs.declared.place.Place.{Place}
 use Rattle.rules.proofs.Tests.{and-iff, ltb-iff}
 use Rattle.rules.proofs.Kept.{kept}
 use Rattle.rules.proofs.Visiting.{goes-on}
-use Rattle.rules.proofs.Arenas.{inside-iff, is-record-iff, recorded-iff, leads-iff}
+use Rattle.rules.proofs.Arenas.{inside-iff}
 use Rattle.cabinet.specs.Playing.{Caller, turn, turns, Stands, AsListed, Allows}
-use Rattle.cabinet.proofs.Starting.{followed-inside, followed-listed, listed-followed}
+use Rattle.cabinet.proofs.Starting.{followed-inside, followed-listed, recorded-followed, listed-followed}
 
 -- the place that an answer names
 abbrev pub at : MovedFigures → Place
@@ -58,12 +58,7 @@ module _ (b : List ℕ) where
   -- every move of the game is one that following takes, with the state entered as its outcome
   pub listed-taken : Keeps b → {f : MovedFigures} → Stands b f → (a : ℕ) (t : Place) → Listed (arena (said b)) (at f) a t
       → followed b (f .state) (f .goal) a (t .state) ≡ moved-to t
-  listed-taken keeps {f} s a t m =
-      let (k, l, from, e) = leads-iff (said b) (at f) t a .0 m in
-      let x = said b .move k .outcome in
-      let r = recorded-iff (said b) (f .state) a x .1 (k, l, is-record-iff (said b .move k) (f .state) a x .1 (from, refl)) in
-      ap (λ (p : Place). followed b (f .state) (f .goal) a (p .state)) e
-      ∙ listed-followed b (f .state) (f .goal) a x keeps (s .on-place) r ∙ ap moved-to (sym e)
+  listed-taken keeps {f} s a t m = listed-followed b (f .state) (f .goal) a t keeps (stands-inside s) m
 
   -- from a place a move is followed, or refused by 11
   pub taken-or-11 : Keeps b → {f : MovedFigures} → Stands b f → (a t : ℕ)
@@ -72,7 +67,7 @@ module _ (b : List ℕ) where
     where
       go : (x : Bool) → recorded (said b) (f .state) a t ≡ x
           → (followed b (f .state) (f .goal) a t .refusal ≡ 0) ⊎ (followed b (f .state) (f .goal) a t .refusal ≡ 11)
-      go true e = inl (ap (λ (g : MovedFigures). g .refusal) (listed-followed b (f .state) (f .goal) a t keeps (s .on-place) e))
+      go true e = inl (ap (λ (g : MovedFigures). g .refusal) (recorded-followed b (f .state) (f .goal) a t keeps (s .on-place) e))
       go false e = inr (rw (eq-eqb (refusal b) 0 (kept b .1 keeps), s .on-place, e))
 
   -- a run of calls up to h is a play of the game from k on, of at most n moves

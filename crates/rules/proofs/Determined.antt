@@ -12,7 +12,6 @@ use lib.Pow.{pow-mono}
 use lib.Seq.{ext-getD}
 use Rattle.rules.specs.Sets.{bit, member, Put}
 use Rattle.rules.specs.Lowest.{IsLowest, LowestOf}
-use Rattle.rules.specs.Plan.{shaped}
 use Rattle.rules.specs.Answers.{ShapeOf}
 use Rattle.rules.specs.declared.actions.ActionSet.{ActionSet}
 use Rattle.rules.specs.declared.actions.LowestAction.{LowestAction}
