@@ -1,18 +1,22 @@
 -- The third demand over the calls: what is promised of the loop that asks advice, acts and follows, on a plan that planning left.
 use Prim.Native.Nat.{ℕ, _+_, _≤_, _<_}
-use mathlib.Core.List.{List}
+use mathlib.Core.List.{List, List·Memᴰ}
 use mathlib.Core.Logic.{_⊎_, inl, inr}
 use mathlib.Core.Path.{_≡_, refl, sym, ap, _∙_, subst}
 use native.Mathlib.Nat.{le-of-suc-le-suc, lt-of-not-le}
 use native.Mathlib.Omega.{arith}
 use borrow.Author.Tests.{eq-eqb}
-use Rattle.rules.specs.Game.{Arena, Play, begin, last, made, says, Open, Accepted, Lawful, Winning, WinsIn, HopesIn, Right, lost, met, wins}
-use Rattle.rules.specs.Game.{hopes}
-use Rattle.rules.specs.Job.{start, arena}
+use lib.ListN.{length}
+use Rattle.rules.specs.Game.{Arena, Play, begin, last, made, says, Inside, Open, Accepted, Unmet, Lawful, Winning, WinsIn, HopesIn}
+use Rattle.rules.specs.Game.{Right, lost, met, wins, hopes}
+use Rattle.rules.specs.Job.{place, start, arena}
 use Rattle.rules.specs.Bytes.{refusal, said}
 use Rattle.rules.specs.Answers.{MovedFigures, AdvisedFigures}
-use Rattle.rules.specs.Calls.{Planning, moved-to, started, advice-of}
+use Rattle.rules.specs.Calls.{Planning, moved-to, started, advice-of, advised}
+use Rattle.rules.specs.declared.place.Place.{Place}
 use Rattle.rules.specs.declared.entry.Entry.{Entry}
+use Rattle.rules.proofs.Search.{clash}
+use Rattle.rules.proofs.Bounds.{wins-within}
 use Rattle.rules.proofs.Values.{accepted-winning}
 use Rattle.rules.proofs.Hopes.{wins-winning}
 use Rattle.rules.proofs.Right.{right-unique}
@@ -55,7 +59,16 @@ module _ {b before after : List ℕ} (done : Planning b before 0 after) where
     pub stays-standing : (c : Caller) (o : ℕ → ℕ) (n : ℕ) → Stands b (last (turns b c o h n)) ⊎ (last (turns b c o h n) .refusal ≡ 11)
     stays-standing c o n = stays-on b c (keeps done) n o h s
 
-    -- ---- the third demand
+    -- Advice says winning or pending there, or 0, 255, 0.
+    pub told-kinds : (told b after h .value ≡ 2) ⊎ ((told b after h .value ≡ 1) ⊎ (told b after h ≡ advice-of (says 0 255 0)))
+    told-kinds = go (entry-right done h s) (told-entry done h s)
+      where
+        go : {x : Entry} → Right G (at (last h)) x → told b after h ≡ advice-of x
+            → (told b after h .value ≡ 2) ⊎ ((told b after h .value ≡ 1) ⊎ (told b after h ≡ advice-of (says 0 255 0)))
+        go (lost k) q = inr (inr q)
+        go (met y) q = inl (ap (λ (f : AdvisedFigures). f .value) q)
+        go (wins u w r) q = inl (ap (λ (f : AdvisedFigures). f .value) q)
+        go (hopes k w r) q = inr (inl (ap (λ (f : AdvisedFigures). f .value) q))
 
     number-told : entry-of b after (at (last h)) .number ≡ told b after h .number
     number-told = ap (λ (f : AdvisedFigures). f .number) (sym (told-entry done h s))
@@ -63,82 +76,9 @@ module _ {b before after : List ℕ} (done : Planning b before 0 after) where
     value-told : (v : ℕ) → told b after h .value ≡ v → entry-of b after (at (last h)) .value ≡ v
     value-told v e = ap (λ (f : AdvisedFigures). f .value) (sym (told-entry done h s)) ∙ e
 
-    pub winning-played : told b after h .value ≡ 2 → WinningPlayed b after h
-    winning-played v =
-        record {
-          met-within = met-within;
-          all-needed = needed;
-          guaranteed = λ o l. (told b after h .number, omega arith, met-within o (none-refused done (told b after h .number) o h s l) .0);
-          none-fewer = fewer;
-        }
-      where
-        forced : WinsIn G (at (last h)) (told b after h .number)
-        forced = subst (WinsIn G (at (last h))) number-told (says-wins G L (at (last h)) (entry-right done h s) (value-told 2 v))
-
-        met-within : (o : ℕ → ℕ) → last (heeded-turns o h (told b after h .number)) .refusal ≡ 0
-            → Met b (last (heeded-turns o h (told b after h .number)))
-            × (told b after (heeded-turns o h (told b after h .number)) ≡ advice-of (says 2 255 0))
-        met-within o e =
-            let n = told b after h .number in
-            let k = heeded-turns o h n in
-            let (t, y) = meets done n h s n forced (omega arith) o e in
-            ((e, y), told-entry done k t ∙ ap advice-of (right-unique G L (entry-right done k t) (met y)))
-
-        needed : (c : Caller) → (o : ℕ → ℕ) × AsListed b c o h (told b after h .number)
-            × ((m : ℕ) → m < told b after h .number → Met b (last (turns b c o h m)) → ⊥)
-        needed c = let (o, x) = caller-needs b (keeps done) c h s (told b after h .number) forced in (o, x .listed, x .unmet)
-
-        fewer : (c : Caller) (n : ℕ) → Guarantees b c h n → told b after h .number ≤ n
-        fewer c n g =
-            let (o, l, u) = needed c in
-            le-of-suc-le-suc (lt-of-not-le (λ (x : n < told b after h .number).
-            let (m, y, z) = g o (λ k a t q. l k a t (omega arith)) in
-            u m (omega arith) z))
-
-    -- The same, said with refusals alone. Some outcomes, none of them refused, need all of the turns of the loop;
-    pub loop-needs-all : told b after h .value ≡ 2
-        → (o : ℕ → ℕ) × (last (heeded-turns o h (told b after h .number)) .refusal ≡ 0)
-        × ((m : ℕ) → m < told b after h .number → Met b (last (heeded-turns o h m)) → ⊥)
-    loop-needs-all v =
-        let (o, l, u) = winning-played v .all-needed (heeds b after) in
-        (o, none-refused done (told b after h .number) o h s l, u)
-
-    -- and where the calls allow c, and by c the goal is met within n turns whenever none of them is refused, n is no smaller.
-    pub none-allowed-fewer : told b after h .value ≡ 2 → (c : Caller) → Allows b c h → (n : ℕ)
-        → ((o : ℕ → ℕ) → last (turns b c o h n) .refusal ≡ 0 → (m : ℕ) × (m ≤ n) × Met b (last (turns b c o h m)))
-        → told b after h .number ≤ n
-    none-allowed-fewer v c al n f = winning-played v .none-fewer c n (λ o l. f o (allowed-answered b c n o h al (s .answered) l))
-
-    pub pending-played : told b after h .value ≡ 1 → PendingPlayed b after h
-    pending-played v = record { reached-by = reached; none-fewer = fewer }
-      where
-        hoped : HopesIn G (at (last h)) (told b after h .number)
-        hoped = subst (HopesIn G (at (last h))) number-told (says-hopes G L (at (last h)) (entry-right done h s) (value-told 1 v) .1)
-
-        reached : (o : ℕ → ℕ) × (last (heeded-turns o h (told b after h .number)) .refusal ≡ 0)
-            × (told b after (heeded-turns o h (told b after h .number)) .value ≡ 2)
-            × (made (heeded-turns o h (told b after h .number)) ≡ made h + told b after h .number)
-        reached =
-            let r = reaches done (told b after h .number) h s hoped in
-            let k = heeded-turns (r .outcomes) h (told b after h .number) in
-            let v = values-told done (at (last k)) (stands-inside b (r .stands)) .winning .1 (r .winning) in (
-              r .outcomes,
-              r .stands .answered,
-              ap (λ (f : AdvisedFigures). f .value) (told-entry done k (r .stands)) ∙ v,
-              r .moved,
-            )
-
-        fewer : (c : Caller) (o : ℕ → ℕ) (n : ℕ) → last (turns b c o h n) .refusal ≡ 0 → told b after (turns b c o h n) .value ≡ 2
-            → told b after h .number ≤ n
-        fewer c o n e x =
-            let k = turns b c o h n in
-            let w = turns-go b c n o h (begin (at (last h))) s refl e in
-            let t = w .stands in
-            let y = ap (λ (f : AdvisedFigures). f .value) (sym (told-entry done k t)) ∙ x in
-            let win = values-told done (at (last k)) (stands-inside b t) .winning .0 y in
-            let far = goes-hoped G L (stands-inside b s) hoped (w .goes) (subst (Winning G) (sym (w .here)) win) in
-            let near = w .short in
-            omega arith
+    -- where the goal is met advice says so
+    pub met-told : Met b (last h) → told b after h ≡ advice-of (says 2 255 0)
+    met-told y = told-entry done h s ∙ ap advice-of (right-unique G L (entry-right done h s) (met (y .1)))
 
     pub end-told : told b after h .action ≡ 255 → EndTold b after h
     end-told e = go (entry-right done h s) (told-entry done h s)
@@ -164,9 +104,98 @@ module _ {b before after : List ℕ} (done : Planning b before 0 after) where
         go (hopes {a} k w r) q =
             let (t, m, _) = r .0 in absurd (unnamed a (t, m) (ap (λ (f : AdvisedFigures). f .action) (sym q) ∙ e))
 
-    -- where the goal is met advice says so
-    pub met-told : Met b (last h) → told b after h ≡ advice-of (says 2 255 0)
-    met-told y = told-entry done h s ∙ ap advice-of (right-unique G L (entry-right done h s) (met (y .1)))
+  -- ---- the third demand
+
+  module _ (h : Play MovedFigures) (s : Stands b (last h)) where
+    pub winning-played : told b after h .value ≡ 2 → WinningPlayed b after h
+    winning-played v =
+        record {
+          met-within = met-within;
+          all-needed = needed;
+          guaranteed = λ o l. (told b after h .number, omega arith, met-within o (none-refused done (told b after h .number) o h s l) .0);
+          none-fewer = fewer;
+          at-most = at-most;
+        }
+      where
+        forced : WinsIn G (at (last h)) (told b after h .number)
+        forced = subst (WinsIn G (at (last h))) (number-told h s) (says-wins G L (at (last h)) (entry-right done h s) (value-told h s 2 v))
+
+        met-within : (o : ℕ → ℕ) → last (heeded-turns o h (told b after h .number)) .refusal ≡ 0
+            → Met b (last (heeded-turns o h (told b after h .number)))
+            × (told b after (heeded-turns o h (told b after h .number)) ≡ advice-of (says 2 255 0))
+        met-within o e =
+            let n = told b after h .number in
+            let k = heeded-turns o h n in
+            let (t, y) = meets done n h s n forced (omega arith) o e in
+            ((e, y), told-entry done k t ∙ ap advice-of (right-unique G L (entry-right done k t) (met y)))
+
+        needed : (c : Caller) → (o : ℕ → ℕ) × AsListed b c o h (told b after h .number)
+            × ((m : ℕ) → m < told b after h .number → Met b (last (turns b c o h m)) → ⊥)
+        needed c = let (o, x) = caller-needs b (keeps done) c h s (told b after h .number) forced in (o, x .listed, x .unmet)
+
+        fewer : (c : Caller) (n : ℕ) → Guarantees b c h n → told b after h .number ≤ n
+        fewer c n g =
+            let (o, l, u) = needed c in
+            le-of-suc-le-suc (lt-of-not-le (λ (x : n < told b after h .number).
+            let (m, y, z) = g o (λ k a t q. l k a t (omega arith)) in
+            u m (omega arith) z))
+
+        at-most : (ts : List Place)
+            → ((s q : ℕ) → advised b after s q .value ≡ 2 → (advised b after s q .action ≡ 255 → ⊥) → List·Memᴰ (place s q) ts)
+            → told b after h .number ≤ length ts
+        at-most ts all = wins-within G L (told b after h .number) (at (last h)) (stands-inside b s) forced ts counted
+          where
+            counted : (t : Place) → Inside G t → Winning G t → Unmet G t → List·Memᴰ t ts
+            counted t i w u =
+                let here = begin (moved-to t) in
+                let k = inside-stands b i in
+                let x = ap (λ (f : AdvisedFigures). f .value) (told-entry done here k) ∙ values-told done t i .winning .1 w in
+                all (t .state) (t .goal) x (λ e. clash (end-told here k e .met x .1) u)
+
+    -- The same, said with refusals alone. Some outcomes, none of them refused, need all of the turns of the loop;
+    pub loop-needs-all : told b after h .value ≡ 2
+        → (o : ℕ → ℕ) × (last (heeded-turns o h (told b after h .number)) .refusal ≡ 0)
+        × ((m : ℕ) → m < told b after h .number → Met b (last (heeded-turns o h m)) → ⊥)
+    loop-needs-all v =
+        let (o, l, u) = winning-played v .all-needed (heeds b after) in
+        (o, none-refused done (told b after h .number) o h s l, u)
+
+    -- and where the calls allow c, and by c the goal is met within n turns whenever none of them is refused, n is no smaller.
+    pub none-allowed-fewer : told b after h .value ≡ 2 → (c : Caller) → Allows b c h → (n : ℕ)
+        → ((o : ℕ → ℕ) → last (turns b c o h n) .refusal ≡ 0 → (m : ℕ) × (m ≤ n) × Met b (last (turns b c o h m)))
+        → told b after h .number ≤ n
+    none-allowed-fewer v c al n f = winning-played v .none-fewer c n (λ o l. f o (allowed-answered b c n o h al (s .answered) l))
+
+    pub pending-played : told b after h .value ≡ 1 → PendingPlayed b after h
+    pending-played v = record { reached-by = reached; none-fewer = fewer }
+      where
+        hoped : HopesIn G (at (last h)) (told b after h .number)
+        hoped = subst (HopesIn G (at (last h))) (number-told h s) (says-hopes G L (at (last h)) (entry-right done h s) (value-told h s 1 v) .1)
+
+        reached : (o : ℕ → ℕ) × (last (heeded-turns o h (told b after h .number)) .refusal ≡ 0)
+            × (told b after (heeded-turns o h (told b after h .number)) .value ≡ 2)
+            × (made (heeded-turns o h (told b after h .number)) ≡ made h + told b after h .number)
+        reached =
+            let r = reaches done (told b after h .number) h s hoped in
+            let k = heeded-turns (r .outcomes) h (told b after h .number) in
+            let v = values-told done (at (last k)) (stands-inside b (r .stands)) .winning .1 (r .winning) in (
+              r .outcomes,
+              r .stands .answered,
+              ap (λ (f : AdvisedFigures). f .value) (told-entry done k (r .stands)) ∙ v,
+              r .moved,
+            )
+
+        fewer : (c : Caller) (o : ℕ → ℕ) (n : ℕ) → last (turns b c o h n) .refusal ≡ 0 → told b after (turns b c o h n) .value ≡ 2
+            → told b after h .number ≤ n
+        fewer c o n e x =
+            let k = turns b c o h n in
+            let w = turns-go b c n o h (begin (at (last h))) s refl e in
+            let t = w .stands in
+            let y = ap (λ (f : AdvisedFigures). f .value) (sym (told-entry done k t)) ∙ x in
+            let win = values-told done (at (last k)) (stands-inside b t) .winning .0 y in
+            let far = goes-hoped G L (stands-inside b s) hoped (w .goes) (subst (Winning G) (sym (w .here)) win) in
+            let near = w .short in
+            omega arith
 
   -- a winning place brings the loop to the goal, with some outcomes; and so does a run that reaches one
   from-winning : (h : Play MovedFigures) → Stands b (last h) → Winning G (at (last h))

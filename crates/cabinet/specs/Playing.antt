@@ -2,15 +2,17 @@
 -- the calls answer.
 use Prim.Native.Nat.{ℕ, zero, suc, _+_, _≤_, _<_}
 use mathlib.Core.Bool.{true, cond}
-use mathlib.Core.List.{List}
+use mathlib.Core.List.{List, List·Memᴰ}
 use mathlib.Core.Logic.{_⊎_}
 use mathlib.Core.Path.{_≡_}
 use lib.Dec.{eqb}
+use lib.ListN.{length}
 use Rattle.rules.specs.Game.{Play, then, last, made, Choice, stop, act, says, Accepted}
 use Rattle.rules.specs.Job.{place, arena}
 use Rattle.rules.specs.Bytes.{said}
 use Rattle.rules.specs.Answers.{MovedFigures, AdvisedFigures}
 use Rattle.rules.specs.Calls.{is-place, followed, advice-of, advised}
+use Rattle.rules.specs.declared.place.Place.{Place}
 
 -- A caller remembers every answer of starting and following with the actions taken between them, and names any action, or stops.
 abbrev pub Caller : Type 0
@@ -68,7 +70,8 @@ module _ (b : List ℕ) where
   -- h is the run of calls so far: what is promised holds from its last answer on, whatever came before.
   module _ (plan : List ℕ) (h : Play MovedFigures) where
     -- Where advice says winning: the loop meets the goal within the number of turns if no move is refused, and advice then says 2, 255, 0;
-    -- whoever calls, some outcomes need all of the turns; and the number is the least that any caller guarantees.
+    -- whoever calls, some outcomes need all of the turns; the number is the least that any caller guarantees, and never more than the
+    -- count of places of which advice says winning and names an action.
     pub record WinningPlayed : Type 0 where
       pub met-within : (o : ℕ → ℕ) → last (turns (heeds plan) o h (told plan h .number)) .refusal ≡ 0
           → Met (last (turns (heeds plan) o h (told plan h .number)))
@@ -77,6 +80,9 @@ module _ (b : List ℕ) where
           × ((m : ℕ) → m < told plan h .number → Met (last (turns c o h m)) → ⊥)
       pub guaranteed : Guarantees (heeds plan) h (told plan h .number)
       pub none-fewer : (c : Caller) (n : ℕ) → Guarantees c h n → told plan h .number ≤ n
+      pub at-most : (ts : List Place)
+          → ((s q : ℕ) → advised b plan s q .value ≡ 2 → (advised b plan s q .action ≡ 255 → ⊥) → List·Memᴰ (place s q) ts)
+          → told plan h .number ≤ length ts
 
     -- Where it says pending: with some outcomes the loop stands, after exactly the number of turns, where advice says winning; and fewer
     -- turns bring no caller there, whatever the outcomes.
