@@ -166,6 +166,22 @@ module _ {M : Type 1} (𝓤 : URA M) (H : Heap 𝓤) (A : Atoms 𝓤) (W : Given
   goes-show t u =
       qed W (‵ (S.the-row .own t (u ∷ [])) ∷ []) ∵ nothing ! $ move ! (1 ∷ 0 ∷ []) $ fjoin ! $ nothing ! $ join ! $ frame ! $ done !
 
+  -- the loan of the reader r in the local l, for a ∷ κ; what `next_move` answers of it, and what it leaves; what `show` answers
+  abbrev loaned : ℕ → ℕ → MoveReader → Item 𝓤
+  loaned l a r = later (some (λ (δ : GName). ‵ (MutRef (named 0) (a ∷ κ) R .own (lent l δ r) (vptr l 0 ∷ [])) ⊛ ‵ (flent (a ∷ κ) (Body (mem R) l 0 δ))))
+
+  abbrev handed-out : ℕ → ℕ → GName → MoveReader → Val → Item 𝓤
+  handed-out l a δ r u = later (some (λ (t : Handed). ((‵ (flft (a ∷ κ) ◐) ⊛ ‵ (flft κ ◑) ⊛ ‵ ftrue) ⊛ ‵ (S.the-row .own t (u ∷ []))) ⊛ raw (ensured 𝓤 H A next-move.ended (next-move.clauses 𝓤 H A at-mem run) (a ∷ κ, (κ, tt)) (lent l δ r, tt) tt t)))
+
+  abbrev Said : MoveReader → Handed → MoveReader → Type 0
+  Said r t r′ = (t ≡ hands r) × (r′ ≡ moved r)
+
+  abbrev left-by : ℕ → ℕ → GName → MoveReader → Handed → Item 𝓤
+  left-by l a δ r t = some (λ (ws : MoveReader × Unit {0}). ‵ (lasts next-move.ended (a ∷ κ, (κ, tt)) (lent l δ r, tt) ws) ⊛ raw (fact 𝓤 (Said r t (ws .0))))
+
+  abbrev shown : Handed → Val → Item 𝓤
+  shown t w = later (some (λ (z : Unit {0}). (‵ ftrue ⊛ ‵ (unit .own z (w ∷ []))) ⊛ raw (ensured 𝓤 H A show.ended (show.clauses 𝓤 H A at-mem run) tt (t, tt) tt z)))
+
   exits : ent 𝓤 (⋆ 𝓤 H A ((‵ (flft κ q) ⊛ ‵ ftrue) ∷ ‵ Own ∷ [])) (Post vunit)
   exits =
       qed W ((‵ (flft κ q) ⊛ ‵ ftrue) ∷ ‵ Own ∷ []) ∵
@@ -191,12 +207,12 @@ module _ {M : Type 1} (𝓤 : URA M) (H : Heap 𝓤) (A : Atoms 𝓤) (W : Given
         move ! (1 ∷ []) $ split ! $ use1 W (‵ (flft κ ◐) ⊛ ‵ (flft κ ◑)) (W .lfts .lft-split κ q) $ split ! $
         -- call 1 of `next_move`: the reader in _2 is lent, for a lifetime a₁ ∷ κ
         lft-new ! tt (λ a₁. use2 W (‵ (flft (a₁ ∷ κ) ◐) ⊛ raw (Rest 𝓤 H A W a₁ ◐)) (within-token 𝓤 H A W a₁ κ ◐) $ split ! $ move ! (4 ∷ []) $
-        use1 W (later (some (λ (δ : GName). ‵ (MutRef (named 0) (a₁ ∷ κ) R .own (lent l₂ δ r) (vptr l₂ 0 ∷ [])) ⊛ ‵ (flent (a₁ ∷ κ) (Body (mem R) l₂ 0 δ))))) (lends-ref 𝓤 H A W R (named 0) (a₁ ∷ κ) r l₂ 0) $ await ! tt $ pick ! (λ δ₁. split ! $
+        use1 W (loaned l₂ a₁ r) (lends-ref 𝓤 H A W R (named 0) (a₁ ∷ κ) r l₂ 0) $ await ! tt $ pick ! (λ δ₁. split ! $
         move ! (2 ∷ 4 ∷ 0 ∷ []) $ use3 W (raw (NextMove 𝓤 H A at-mem run .pre (to-next a₁ l₂ δ₁ r))) (goes-next a₁ l₂ δ₁ r) $
         calls-at ! fm (NextMove 𝓤 H A at-mem run) known-next (to-next a₁ l₂ δ₁ r) (and-then ! (load ! (from ! (stop !)) (look ! 17 refl)) (no-more !)) (λ u₁.
-        use1 W (later (some (λ (t : Handed). ((‵ (flft (a₁ ∷ κ) ◐) ⊛ ‵ (flft κ ◑) ⊛ ‵ ftrue) ⊛ ‵ (S.the-row .own t (u₁ ∷ []))) ⊛ raw (ensured 𝓤 H A next-move.ended (next-move.clauses 𝓤 H A at-mem run) (a₁ ∷ κ, (κ, tt)) (lent l₂ δ₁ r, tt) tt t)))) (id⊢ 𝓤 _) $ await ! tt $ pick ! (λ t₁.
-        split ! $ move ! (1 ∷ []) $ use1 W (some (λ (ws : MoveReader × Unit {0}). ‵ (lasts next-move.ended (a₁ ∷ κ, (κ, tt)) (lent l₂ δ₁ r, tt) ws) ⊛ raw (fact 𝓤 ((t₁ ≡ hands r) × (ws .0 ≡ moved r))))) (id⊢ 𝓤 _) $ pick ! (λ ws₁.
-        split ! $ move ! (1 ∷ []) $ heard ! ((t₁ ≡ hands r) × (ws₁ .0 ≡ moved r)) (λ e₁. fsplit ! $ move ! (2 ∷ []) $ split ! $ move ! (1 ∷ []) $
+        use1 W (handed-out l₂ a₁ δ₁ r u₁) (id⊢ 𝓤 _) $ await ! tt $ pick ! (λ t₁.
+        split ! $ move ! (1 ∷ []) $ use1 W (left-by l₂ a₁ δ₁ r t₁) (id⊢ 𝓤 _) $ pick ! (λ ws₁.
+        split ! $ move ! (1 ∷ []) $ heard ! (Said r t₁ (ws₁ .0)) (λ e₁. fsplit ! $ move ! (2 ∷ []) $ split ! $ move ! (1 ∷ []) $
         peeks ! S.the-row (Is S.the-row) (shows 𝓤 H A S.the-row) t₁ (u₁ ∷ []) (λ is₁.
         land ! (from ! (stop !)) (init ! 22 refl (EL.lawful S.the-type S′.the-laws 𝓤 H A W tt .typed t₁ _ is₁ .0)) $
         -- the lifetime is ended, and the local comes back
@@ -205,19 +221,19 @@ module _ {M : Type 1} (𝓤 : URA M) (H : Heap 𝓤) (A : Atoms 𝓤) (W : Given
         -- what was handed out is shown
         move ! (3 ∷ []) $ use1 W (raw (Show 𝓤 H A at-mem run .pre (to-show t₁ u₁))) (goes-show t₁ u₁) $
         calls-at ! fm (Show 𝓤 H A at-mem run) known-show (to-show t₁ u₁) (and-then ! (load ! (from ! (stop !)) (look ! 21 refl)) (no-more !)) (λ w₁.
-        use1 W (later (some (λ (z : Unit {0}). (‵ ftrue ⊛ ‵ (unit .own z (w₁ ∷ []))) ⊛ raw (ensured 𝓤 H A show.ended (show.clauses 𝓤 H A at-mem run) tt (t₁, tt) tt z)))) (id⊢ 𝓤 _) $ await ! tt $ pick ! (λ z₁.
+        use1 W (shown t₁ w₁) (id⊢ 𝓤 _) $ await ! tt $ pick ! (λ z₁.
         split ! $ split ! $ move ! (1 ∷ []) $ facts ! unit (Is unit) (shows 𝓤 H A unit) z₁ (w₁ ∷ []) (λ iz₁.
         land ! (from ! (stop !)) (init ! 24 refl (nothing-lawful 𝓤 H A W .typed z₁ _ iz₁ .0)) $
         assigns ! (addr ! (from ! (stop !))) (from ! (stop !)) (init ! 18 refl (tt, tt)) $
         move ! (4 ∷ []) $ split ! $ move ! (5 ∷ 0 ∷ 1 ∷ 4 ∷ []) $
         -- call 2 of `next_move`: the reader in _2 is lent, for a lifetime a₂ ∷ κ
         lft-new ! tt (λ a₂. use2 W (‵ (flft (a₂ ∷ κ) ◐) ⊛ raw (Rest 𝓤 H A W a₂ ◐)) (within-token 𝓤 H A W a₂ κ ◐) $ split ! $ move ! (4 ∷ []) $
-        use1 W (later (some (λ (δ : GName). ‵ (MutRef (named 0) (a₂ ∷ κ) R .own (lent l₂ δ (ws₁ .0)) (vptr l₂ 0 ∷ [])) ⊛ ‵ (flent (a₂ ∷ κ) (Body (mem R) l₂ 0 δ))))) (lends-ref 𝓤 H A W R (named 0) (a₂ ∷ κ) (ws₁ .0) l₂ 0) $ await ! tt $ pick ! (λ δ₂. split ! $
+        use1 W (loaned l₂ a₂ (ws₁ .0)) (lends-ref 𝓤 H A W R (named 0) (a₂ ∷ κ) (ws₁ .0) l₂ 0) $ await ! tt $ pick ! (λ δ₂. split ! $
         move ! (2 ∷ 4 ∷ 0 ∷ []) $ use3 W (raw (NextMove 𝓤 H A at-mem run .pre (to-next a₂ l₂ δ₂ (ws₁ .0)))) (goes-next a₂ l₂ δ₂ (ws₁ .0)) $
         calls-at ! fm (NextMove 𝓤 H A at-mem run) known-next (to-next a₂ l₂ δ₂ (ws₁ .0)) (and-then ! (load ! (from ! (stop !)) (look ! 19 refl)) (no-more !)) (λ u₂.
-        use1 W (later (some (λ (t : Handed). ((‵ (flft (a₂ ∷ κ) ◐) ⊛ ‵ (flft κ ◑) ⊛ ‵ ftrue) ⊛ ‵ (S.the-row .own t (u₂ ∷ []))) ⊛ raw (ensured 𝓤 H A next-move.ended (next-move.clauses 𝓤 H A at-mem run) (a₂ ∷ κ, (κ, tt)) (lent l₂ δ₂ (ws₁ .0), tt) tt t)))) (id⊢ 𝓤 _) $ await ! tt $ pick ! (λ t₂.
-        split ! $ move ! (1 ∷ []) $ use1 W (some (λ (ws : MoveReader × Unit {0}). ‵ (lasts next-move.ended (a₂ ∷ κ, (κ, tt)) (lent l₂ δ₂ (ws₁ .0), tt) ws) ⊛ raw (fact 𝓤 ((t₂ ≡ hands (ws₁ .0)) × (ws .0 ≡ moved (ws₁ .0)))))) (id⊢ 𝓤 _) $ pick ! (λ ws₂.
-        split ! $ move ! (1 ∷ []) $ heard ! ((t₂ ≡ hands (ws₁ .0)) × (ws₂ .0 ≡ moved (ws₁ .0))) (λ e₂. fsplit ! $ move ! (2 ∷ []) $ split ! $ move ! (1 ∷ []) $
+        use1 W (handed-out l₂ a₂ δ₂ (ws₁ .0) u₂) (id⊢ 𝓤 _) $ await ! tt $ pick ! (λ t₂.
+        split ! $ move ! (1 ∷ []) $ use1 W (left-by l₂ a₂ δ₂ (ws₁ .0) t₂) (id⊢ 𝓤 _) $ pick ! (λ ws₂.
+        split ! $ move ! (1 ∷ []) $ heard ! (Said (ws₁ .0) t₂ (ws₂ .0)) (λ e₂. fsplit ! $ move ! (2 ∷ []) $ split ! $ move ! (1 ∷ []) $
         peeks ! S.the-row (Is S.the-row) (shows 𝓤 H A S.the-row) t₂ (u₂ ∷ []) (λ is₂.
         land ! (from ! (stop !)) (store ! 26 refl (EL.lawful S.the-type S′.the-laws 𝓤 H A W tt .typed t₂ _ is₂ .0)) $
         -- the lifetime is ended, and the local comes back
@@ -226,19 +242,19 @@ module _ {M : Type 1} (𝓤 : URA M) (H : Heap 𝓤) (A : Atoms 𝓤) (W : Given
         -- what was handed out is shown
         move ! (3 ∷ []) $ use1 W (raw (Show 𝓤 H A at-mem run .pre (to-show t₂ u₂))) (goes-show t₂ u₂) $
         calls-at ! fm (Show 𝓤 H A at-mem run) known-show (to-show t₂ u₂) (and-then ! (load ! (from ! (stop !)) (look ! 25 refl)) (no-more !)) (λ w₂.
-        use1 W (later (some (λ (z : Unit {0}). (‵ ftrue ⊛ ‵ (unit .own z (w₂ ∷ []))) ⊛ raw (ensured 𝓤 H A show.ended (show.clauses 𝓤 H A at-mem run) tt (t₂, tt) tt z)))) (id⊢ 𝓤 _) $ await ! tt $ pick ! (λ z₂.
+        use1 W (shown t₂ w₂) (id⊢ 𝓤 _) $ await ! tt $ pick ! (λ z₂.
         split ! $ split ! $ move ! (1 ∷ []) $ facts ! unit (Is unit) (shows 𝓤 H A unit) z₂ (w₂ ∷ []) (λ iz₂.
         land ! (from ! (stop !)) (store ! 28 refl (nothing-lawful 𝓤 H A W .typed z₂ _ iz₂ .0)) $
         assigns ! (addr ! (from ! (stop !))) (from ! (stop !)) (init ! 20 refl (tt, tt)) $
         move ! (4 ∷ []) $ split ! $ move ! (5 ∷ 0 ∷ 1 ∷ 4 ∷ []) $
         -- call 3 of `next_move`: the reader in _2 is lent, for a lifetime a₃ ∷ κ
         lft-new ! tt (λ a₃. use2 W (‵ (flft (a₃ ∷ κ) ◐) ⊛ raw (Rest 𝓤 H A W a₃ ◐)) (within-token 𝓤 H A W a₃ κ ◐) $ split ! $ move ! (4 ∷ []) $
-        use1 W (later (some (λ (δ : GName). ‵ (MutRef (named 0) (a₃ ∷ κ) R .own (lent l₂ δ (ws₂ .0)) (vptr l₂ 0 ∷ [])) ⊛ ‵ (flent (a₃ ∷ κ) (Body (mem R) l₂ 0 δ))))) (lends-ref 𝓤 H A W R (named 0) (a₃ ∷ κ) (ws₂ .0) l₂ 0) $ await ! tt $ pick ! (λ δ₃. split ! $
+        use1 W (loaned l₂ a₃ (ws₂ .0)) (lends-ref 𝓤 H A W R (named 0) (a₃ ∷ κ) (ws₂ .0) l₂ 0) $ await ! tt $ pick ! (λ δ₃. split ! $
         move ! (2 ∷ 4 ∷ 0 ∷ []) $ use3 W (raw (NextMove 𝓤 H A at-mem run .pre (to-next a₃ l₂ δ₃ (ws₂ .0)))) (goes-next a₃ l₂ δ₃ (ws₂ .0)) $
         calls-at ! fm (NextMove 𝓤 H A at-mem run) known-next (to-next a₃ l₂ δ₃ (ws₂ .0)) (and-then ! (load ! (from ! (stop !)) (look ! 21 refl)) (no-more !)) (λ u₃.
-        use1 W (later (some (λ (t : Handed). ((‵ (flft (a₃ ∷ κ) ◐) ⊛ ‵ (flft κ ◑) ⊛ ‵ ftrue) ⊛ ‵ (S.the-row .own t (u₃ ∷ []))) ⊛ raw (ensured 𝓤 H A next-move.ended (next-move.clauses 𝓤 H A at-mem run) (a₃ ∷ κ, (κ, tt)) (lent l₂ δ₃ (ws₂ .0), tt) tt t)))) (id⊢ 𝓤 _) $ await ! tt $ pick ! (λ t₃.
-        split ! $ move ! (1 ∷ []) $ use1 W (some (λ (ws : MoveReader × Unit {0}). ‵ (lasts next-move.ended (a₃ ∷ κ, (κ, tt)) (lent l₂ δ₃ (ws₂ .0), tt) ws) ⊛ raw (fact 𝓤 ((t₃ ≡ hands (ws₂ .0)) × (ws .0 ≡ moved (ws₂ .0)))))) (id⊢ 𝓤 _) $ pick ! (λ ws₃.
-        split ! $ move ! (1 ∷ []) $ heard ! ((t₃ ≡ hands (ws₂ .0)) × (ws₃ .0 ≡ moved (ws₂ .0))) (λ e₃. fsplit ! $ move ! (2 ∷ []) $ split ! $ move ! (1 ∷ []) $
+        use1 W (handed-out l₂ a₃ δ₃ (ws₂ .0) u₃) (id⊢ 𝓤 _) $ await ! tt $ pick ! (λ t₃.
+        split ! $ move ! (1 ∷ []) $ use1 W (left-by l₂ a₃ δ₃ (ws₂ .0) t₃) (id⊢ 𝓤 _) $ pick ! (λ ws₃.
+        split ! $ move ! (1 ∷ []) $ heard ! (Said (ws₂ .0) t₃ (ws₃ .0)) (λ e₃. fsplit ! $ move ! (2 ∷ []) $ split ! $ move ! (1 ∷ []) $
         peeks ! S.the-row (Is S.the-row) (shows 𝓤 H A S.the-row) t₃ (u₃ ∷ []) (λ is₃.
         land ! (from ! (stop !)) (store ! 30 refl (EL.lawful S.the-type S′.the-laws 𝓤 H A W tt .typed t₃ _ is₃ .0)) $
         -- the lifetime is ended, and the local comes back
@@ -247,19 +263,19 @@ module _ {M : Type 1} (𝓤 : URA M) (H : Heap 𝓤) (A : Atoms 𝓤) (W : Given
         -- what was handed out is shown
         move ! (3 ∷ []) $ use1 W (raw (Show 𝓤 H A at-mem run .pre (to-show t₃ u₃))) (goes-show t₃ u₃) $
         calls-at ! fm (Show 𝓤 H A at-mem run) known-show (to-show t₃ u₃) (and-then ! (load ! (from ! (stop !)) (look ! 29 refl)) (no-more !)) (λ w₃.
-        use1 W (later (some (λ (z : Unit {0}). (‵ ftrue ⊛ ‵ (unit .own z (w₃ ∷ []))) ⊛ raw (ensured 𝓤 H A show.ended (show.clauses 𝓤 H A at-mem run) tt (t₃, tt) tt z)))) (id⊢ 𝓤 _) $ await ! tt $ pick ! (λ z₃.
+        use1 W (shown t₃ w₃) (id⊢ 𝓤 _) $ await ! tt $ pick ! (λ z₃.
         split ! $ split ! $ move ! (1 ∷ []) $ facts ! unit (Is unit) (shows 𝓤 H A unit) z₃ (w₃ ∷ []) (λ iz₃.
         land ! (from ! (stop !)) (store ! 32 refl (nothing-lawful 𝓤 H A W .typed z₃ _ iz₃ .0)) $
         assigns ! (addr ! (from ! (stop !))) (from ! (stop !)) (init ! 22 refl (tt, tt)) $
         move ! (4 ∷ []) $ split ! $ move ! (5 ∷ 0 ∷ 1 ∷ 4 ∷ []) $
         -- call 4 of `next_move`: the reader in _2 is lent, for a lifetime a₄ ∷ κ
         lft-new ! tt (λ a₄. use2 W (‵ (flft (a₄ ∷ κ) ◐) ⊛ raw (Rest 𝓤 H A W a₄ ◐)) (within-token 𝓤 H A W a₄ κ ◐) $ split ! $ move ! (4 ∷ []) $
-        use1 W (later (some (λ (δ : GName). ‵ (MutRef (named 0) (a₄ ∷ κ) R .own (lent l₂ δ (ws₃ .0)) (vptr l₂ 0 ∷ [])) ⊛ ‵ (flent (a₄ ∷ κ) (Body (mem R) l₂ 0 δ))))) (lends-ref 𝓤 H A W R (named 0) (a₄ ∷ κ) (ws₃ .0) l₂ 0) $ await ! tt $ pick ! (λ δ₄. split ! $
+        use1 W (loaned l₂ a₄ (ws₃ .0)) (lends-ref 𝓤 H A W R (named 0) (a₄ ∷ κ) (ws₃ .0) l₂ 0) $ await ! tt $ pick ! (λ δ₄. split ! $
         move ! (2 ∷ 4 ∷ 0 ∷ []) $ use3 W (raw (NextMove 𝓤 H A at-mem run .pre (to-next a₄ l₂ δ₄ (ws₃ .0)))) (goes-next a₄ l₂ δ₄ (ws₃ .0)) $
         calls-at ! fm (NextMove 𝓤 H A at-mem run) known-next (to-next a₄ l₂ δ₄ (ws₃ .0)) (and-then ! (load ! (from ! (stop !)) (look ! 23 refl)) (no-more !)) (λ u₄.
-        use1 W (later (some (λ (t : Handed). ((‵ (flft (a₄ ∷ κ) ◐) ⊛ ‵ (flft κ ◑) ⊛ ‵ ftrue) ⊛ ‵ (S.the-row .own t (u₄ ∷ []))) ⊛ raw (ensured 𝓤 H A next-move.ended (next-move.clauses 𝓤 H A at-mem run) (a₄ ∷ κ, (κ, tt)) (lent l₂ δ₄ (ws₃ .0), tt) tt t)))) (id⊢ 𝓤 _) $ await ! tt $ pick ! (λ t₄.
-        split ! $ move ! (1 ∷ []) $ use1 W (some (λ (ws : MoveReader × Unit {0}). ‵ (lasts next-move.ended (a₄ ∷ κ, (κ, tt)) (lent l₂ δ₄ (ws₃ .0), tt) ws) ⊛ raw (fact 𝓤 ((t₄ ≡ hands (ws₃ .0)) × (ws .0 ≡ moved (ws₃ .0)))))) (id⊢ 𝓤 _) $ pick ! (λ ws₄.
-        split ! $ move ! (1 ∷ []) $ heard ! ((t₄ ≡ hands (ws₃ .0)) × (ws₄ .0 ≡ moved (ws₃ .0))) (λ e₄. fsplit ! $ move ! (2 ∷ []) $ split ! $ move ! (1 ∷ []) $
+        use1 W (handed-out l₂ a₄ δ₄ (ws₃ .0) u₄) (id⊢ 𝓤 _) $ await ! tt $ pick ! (λ t₄.
+        split ! $ move ! (1 ∷ []) $ use1 W (left-by l₂ a₄ δ₄ (ws₃ .0) t₄) (id⊢ 𝓤 _) $ pick ! (λ ws₄.
+        split ! $ move ! (1 ∷ []) $ heard ! (Said (ws₃ .0) t₄ (ws₄ .0)) (λ e₄. fsplit ! $ move ! (2 ∷ []) $ split ! $ move ! (1 ∷ []) $
         peeks ! S.the-row (Is S.the-row) (shows 𝓤 H A S.the-row) t₄ (u₄ ∷ []) (λ is₄.
         land ! (from ! (stop !)) (store ! 34 refl (EL.lawful S.the-type S′.the-laws 𝓤 H A W tt .typed t₄ _ is₄ .0)) $
         -- the lifetime is ended, and the local comes back
@@ -268,19 +284,19 @@ module _ {M : Type 1} (𝓤 : URA M) (H : Heap 𝓤) (A : Atoms 𝓤) (W : Given
         -- what was handed out is shown
         move ! (3 ∷ []) $ use1 W (raw (Show 𝓤 H A at-mem run .pre (to-show t₄ u₄))) (goes-show t₄ u₄) $
         calls-at ! fm (Show 𝓤 H A at-mem run) known-show (to-show t₄ u₄) (and-then ! (load ! (from ! (stop !)) (look ! 33 refl)) (no-more !)) (λ w₄.
-        use1 W (later (some (λ (z : Unit {0}). (‵ ftrue ⊛ ‵ (unit .own z (w₄ ∷ []))) ⊛ raw (ensured 𝓤 H A show.ended (show.clauses 𝓤 H A at-mem run) tt (t₄, tt) tt z)))) (id⊢ 𝓤 _) $ await ! tt $ pick ! (λ z₄.
+        use1 W (shown t₄ w₄) (id⊢ 𝓤 _) $ await ! tt $ pick ! (λ z₄.
         split ! $ split ! $ move ! (1 ∷ []) $ facts ! unit (Is unit) (shows 𝓤 H A unit) z₄ (w₄ ∷ []) (λ iz₄.
         land ! (from ! (stop !)) (store ! 36 refl (nothing-lawful 𝓤 H A W .typed z₄ _ iz₄ .0)) $
         assigns ! (addr ! (from ! (stop !))) (from ! (stop !)) (init ! 24 refl (tt, tt)) $
         move ! (4 ∷ []) $ split ! $ move ! (5 ∷ 0 ∷ 1 ∷ 4 ∷ []) $
         -- call 5 of `next_move`: the reader in _2 is lent, for a lifetime a₅ ∷ κ
         lft-new ! tt (λ a₅. use2 W (‵ (flft (a₅ ∷ κ) ◐) ⊛ raw (Rest 𝓤 H A W a₅ ◐)) (within-token 𝓤 H A W a₅ κ ◐) $ split ! $ move ! (4 ∷ []) $
-        use1 W (later (some (λ (δ : GName). ‵ (MutRef (named 0) (a₅ ∷ κ) R .own (lent l₂ δ (ws₄ .0)) (vptr l₂ 0 ∷ [])) ⊛ ‵ (flent (a₅ ∷ κ) (Body (mem R) l₂ 0 δ))))) (lends-ref 𝓤 H A W R (named 0) (a₅ ∷ κ) (ws₄ .0) l₂ 0) $ await ! tt $ pick ! (λ δ₅. split ! $
+        use1 W (loaned l₂ a₅ (ws₄ .0)) (lends-ref 𝓤 H A W R (named 0) (a₅ ∷ κ) (ws₄ .0) l₂ 0) $ await ! tt $ pick ! (λ δ₅. split ! $
         move ! (2 ∷ 4 ∷ 0 ∷ []) $ use3 W (raw (NextMove 𝓤 H A at-mem run .pre (to-next a₅ l₂ δ₅ (ws₄ .0)))) (goes-next a₅ l₂ δ₅ (ws₄ .0)) $
         calls-at ! fm (NextMove 𝓤 H A at-mem run) known-next (to-next a₅ l₂ δ₅ (ws₄ .0)) (and-then ! (load ! (from ! (stop !)) (look ! 25 refl)) (no-more !)) (λ u₅.
-        use1 W (later (some (λ (t : Handed). ((‵ (flft (a₅ ∷ κ) ◐) ⊛ ‵ (flft κ ◑) ⊛ ‵ ftrue) ⊛ ‵ (S.the-row .own t (u₅ ∷ []))) ⊛ raw (ensured 𝓤 H A next-move.ended (next-move.clauses 𝓤 H A at-mem run) (a₅ ∷ κ, (κ, tt)) (lent l₂ δ₅ (ws₄ .0), tt) tt t)))) (id⊢ 𝓤 _) $ await ! tt $ pick ! (λ t₅.
-        split ! $ move ! (1 ∷ []) $ use1 W (some (λ (ws : MoveReader × Unit {0}). ‵ (lasts next-move.ended (a₅ ∷ κ, (κ, tt)) (lent l₂ δ₅ (ws₄ .0), tt) ws) ⊛ raw (fact 𝓤 ((t₅ ≡ hands (ws₄ .0)) × (ws .0 ≡ moved (ws₄ .0)))))) (id⊢ 𝓤 _) $ pick ! (λ ws₅.
-        split ! $ move ! (1 ∷ []) $ heard ! ((t₅ ≡ hands (ws₄ .0)) × (ws₅ .0 ≡ moved (ws₄ .0))) (λ e₅. fsplit ! $ move ! (2 ∷ []) $ split ! $ move ! (1 ∷ []) $
+        use1 W (handed-out l₂ a₅ δ₅ (ws₄ .0) u₅) (id⊢ 𝓤 _) $ await ! tt $ pick ! (λ t₅.
+        split ! $ move ! (1 ∷ []) $ use1 W (left-by l₂ a₅ δ₅ (ws₄ .0) t₅) (id⊢ 𝓤 _) $ pick ! (λ ws₅.
+        split ! $ move ! (1 ∷ []) $ heard ! (Said (ws₄ .0) t₅ (ws₅ .0)) (λ e₅. fsplit ! $ move ! (2 ∷ []) $ split ! $ move ! (1 ∷ []) $
         peeks ! S.the-row (Is S.the-row) (shows 𝓤 H A S.the-row) t₅ (u₅ ∷ []) (λ is₅.
         land ! (from ! (stop !)) (store ! 38 refl (EL.lawful S.the-type S′.the-laws 𝓤 H A W tt .typed t₅ _ is₅ .0)) $
         -- the lifetime is ended, and the local comes back
@@ -289,19 +305,19 @@ module _ {M : Type 1} (𝓤 : URA M) (H : Heap 𝓤) (A : Atoms 𝓤) (W : Given
         -- what was handed out is shown
         move ! (3 ∷ []) $ use1 W (raw (Show 𝓤 H A at-mem run .pre (to-show t₅ u₅))) (goes-show t₅ u₅) $
         calls-at ! fm (Show 𝓤 H A at-mem run) known-show (to-show t₅ u₅) (and-then ! (load ! (from ! (stop !)) (look ! 37 refl)) (no-more !)) (λ w₅.
-        use1 W (later (some (λ (z : Unit {0}). (‵ ftrue ⊛ ‵ (unit .own z (w₅ ∷ []))) ⊛ raw (ensured 𝓤 H A show.ended (show.clauses 𝓤 H A at-mem run) tt (t₅, tt) tt z)))) (id⊢ 𝓤 _) $ await ! tt $ pick ! (λ z₅.
+        use1 W (shown t₅ w₅) (id⊢ 𝓤 _) $ await ! tt $ pick ! (λ z₅.
         split ! $ split ! $ move ! (1 ∷ []) $ facts ! unit (Is unit) (shows 𝓤 H A unit) z₅ (w₅ ∷ []) (λ iz₅.
         land ! (from ! (stop !)) (store ! 40 refl (nothing-lawful 𝓤 H A W .typed z₅ _ iz₅ .0)) $
         assigns ! (addr ! (from ! (stop !))) (from ! (stop !)) (init ! 26 refl (tt, tt)) $
         move ! (4 ∷ []) $ split ! $ move ! (5 ∷ 0 ∷ 1 ∷ 4 ∷ []) $
         -- call 6 of `next_move`: the reader in _2 is lent, for a lifetime a₆ ∷ κ
         lft-new ! tt (λ a₆. use2 W (‵ (flft (a₆ ∷ κ) ◐) ⊛ raw (Rest 𝓤 H A W a₆ ◐)) (within-token 𝓤 H A W a₆ κ ◐) $ split ! $ move ! (4 ∷ []) $
-        use1 W (later (some (λ (δ : GName). ‵ (MutRef (named 0) (a₆ ∷ κ) R .own (lent l₂ δ (ws₅ .0)) (vptr l₂ 0 ∷ [])) ⊛ ‵ (flent (a₆ ∷ κ) (Body (mem R) l₂ 0 δ))))) (lends-ref 𝓤 H A W R (named 0) (a₆ ∷ κ) (ws₅ .0) l₂ 0) $ await ! tt $ pick ! (λ δ₆. split ! $
+        use1 W (loaned l₂ a₆ (ws₅ .0)) (lends-ref 𝓤 H A W R (named 0) (a₆ ∷ κ) (ws₅ .0) l₂ 0) $ await ! tt $ pick ! (λ δ₆. split ! $
         move ! (2 ∷ 4 ∷ 0 ∷ []) $ use3 W (raw (NextMove 𝓤 H A at-mem run .pre (to-next a₆ l₂ δ₆ (ws₅ .0)))) (goes-next a₆ l₂ δ₆ (ws₅ .0)) $
         calls-at ! fm (NextMove 𝓤 H A at-mem run) known-next (to-next a₆ l₂ δ₆ (ws₅ .0)) (and-then ! (load ! (from ! (stop !)) (look ! 27 refl)) (no-more !)) (λ u₆.
-        use1 W (later (some (λ (t : Handed). ((‵ (flft (a₆ ∷ κ) ◐) ⊛ ‵ (flft κ ◑) ⊛ ‵ ftrue) ⊛ ‵ (S.the-row .own t (u₆ ∷ []))) ⊛ raw (ensured 𝓤 H A next-move.ended (next-move.clauses 𝓤 H A at-mem run) (a₆ ∷ κ, (κ, tt)) (lent l₂ δ₆ (ws₅ .0), tt) tt t)))) (id⊢ 𝓤 _) $ await ! tt $ pick ! (λ t₆.
-        split ! $ move ! (1 ∷ []) $ use1 W (some (λ (ws : MoveReader × Unit {0}). ‵ (lasts next-move.ended (a₆ ∷ κ, (κ, tt)) (lent l₂ δ₆ (ws₅ .0), tt) ws) ⊛ raw (fact 𝓤 ((t₆ ≡ hands (ws₅ .0)) × (ws .0 ≡ moved (ws₅ .0)))))) (id⊢ 𝓤 _) $ pick ! (λ ws₆.
-        split ! $ move ! (1 ∷ []) $ heard ! ((t₆ ≡ hands (ws₅ .0)) × (ws₆ .0 ≡ moved (ws₅ .0))) (λ e₆. fsplit ! $ move ! (2 ∷ []) $ split ! $ move ! (1 ∷ []) $
+        use1 W (handed-out l₂ a₆ δ₆ (ws₅ .0) u₆) (id⊢ 𝓤 _) $ await ! tt $ pick ! (λ t₆.
+        split ! $ move ! (1 ∷ []) $ use1 W (left-by l₂ a₆ δ₆ (ws₅ .0) t₆) (id⊢ 𝓤 _) $ pick ! (λ ws₆.
+        split ! $ move ! (1 ∷ []) $ heard ! (Said (ws₅ .0) t₆ (ws₆ .0)) (λ e₆. fsplit ! $ move ! (2 ∷ []) $ split ! $ move ! (1 ∷ []) $
         peeks ! S.the-row (Is S.the-row) (shows 𝓤 H A S.the-row) t₆ (u₆ ∷ []) (λ is₆.
         land ! (from ! (stop !)) (store ! 42 refl (EL.lawful S.the-type S′.the-laws 𝓤 H A W tt .typed t₆ _ is₆ .0)) $
         -- the lifetime is ended, and the local comes back
@@ -310,19 +326,19 @@ module _ {M : Type 1} (𝓤 : URA M) (H : Heap 𝓤) (A : Atoms 𝓤) (W : Given
         -- what was handed out is shown
         move ! (3 ∷ []) $ use1 W (raw (Show 𝓤 H A at-mem run .pre (to-show t₆ u₆))) (goes-show t₆ u₆) $
         calls-at ! fm (Show 𝓤 H A at-mem run) known-show (to-show t₆ u₆) (and-then ! (load ! (from ! (stop !)) (look ! 41 refl)) (no-more !)) (λ w₆.
-        use1 W (later (some (λ (z : Unit {0}). (‵ ftrue ⊛ ‵ (unit .own z (w₆ ∷ []))) ⊛ raw (ensured 𝓤 H A show.ended (show.clauses 𝓤 H A at-mem run) tt (t₆, tt) tt z)))) (id⊢ 𝓤 _) $ await ! tt $ pick ! (λ z₆.
+        use1 W (shown t₆ w₆) (id⊢ 𝓤 _) $ await ! tt $ pick ! (λ z₆.
         split ! $ split ! $ move ! (1 ∷ []) $ facts ! unit (Is unit) (shows 𝓤 H A unit) z₆ (w₆ ∷ []) (λ iz₆.
         land ! (from ! (stop !)) (store ! 44 refl (nothing-lawful 𝓤 H A W .typed z₆ _ iz₆ .0)) $
         assigns ! (addr ! (from ! (stop !))) (from ! (stop !)) (init ! 28 refl (tt, tt)) $
         move ! (4 ∷ []) $ split ! $ move ! (5 ∷ 0 ∷ 1 ∷ 4 ∷ []) $
         -- call 7 of `next_move`: the reader in _2 is lent, for a lifetime a₇ ∷ κ
         lft-new ! tt (λ a₇. use2 W (‵ (flft (a₇ ∷ κ) ◐) ⊛ raw (Rest 𝓤 H A W a₇ ◐)) (within-token 𝓤 H A W a₇ κ ◐) $ split ! $ move ! (4 ∷ []) $
-        use1 W (later (some (λ (δ : GName). ‵ (MutRef (named 0) (a₇ ∷ κ) R .own (lent l₂ δ (ws₆ .0)) (vptr l₂ 0 ∷ [])) ⊛ ‵ (flent (a₇ ∷ κ) (Body (mem R) l₂ 0 δ))))) (lends-ref 𝓤 H A W R (named 0) (a₇ ∷ κ) (ws₆ .0) l₂ 0) $ await ! tt $ pick ! (λ δ₇. split ! $
+        use1 W (loaned l₂ a₇ (ws₆ .0)) (lends-ref 𝓤 H A W R (named 0) (a₇ ∷ κ) (ws₆ .0) l₂ 0) $ await ! tt $ pick ! (λ δ₇. split ! $
         move ! (2 ∷ 4 ∷ 0 ∷ []) $ use3 W (raw (NextMove 𝓤 H A at-mem run .pre (to-next a₇ l₂ δ₇ (ws₆ .0)))) (goes-next a₇ l₂ δ₇ (ws₆ .0)) $
         calls-at ! fm (NextMove 𝓤 H A at-mem run) known-next (to-next a₇ l₂ δ₇ (ws₆ .0)) (and-then ! (load ! (from ! (stop !)) (look ! 29 refl)) (no-more !)) (λ u₇.
-        use1 W (later (some (λ (t : Handed). ((‵ (flft (a₇ ∷ κ) ◐) ⊛ ‵ (flft κ ◑) ⊛ ‵ ftrue) ⊛ ‵ (S.the-row .own t (u₇ ∷ []))) ⊛ raw (ensured 𝓤 H A next-move.ended (next-move.clauses 𝓤 H A at-mem run) (a₇ ∷ κ, (κ, tt)) (lent l₂ δ₇ (ws₆ .0), tt) tt t)))) (id⊢ 𝓤 _) $ await ! tt $ pick ! (λ t₇.
-        split ! $ move ! (1 ∷ []) $ use1 W (some (λ (ws : MoveReader × Unit {0}). ‵ (lasts next-move.ended (a₇ ∷ κ, (κ, tt)) (lent l₂ δ₇ (ws₆ .0), tt) ws) ⊛ raw (fact 𝓤 ((t₇ ≡ hands (ws₆ .0)) × (ws .0 ≡ moved (ws₆ .0)))))) (id⊢ 𝓤 _) $ pick ! (λ ws₇.
-        split ! $ move ! (1 ∷ []) $ heard ! ((t₇ ≡ hands (ws₆ .0)) × (ws₇ .0 ≡ moved (ws₆ .0))) (λ e₇. fsplit ! $ move ! (2 ∷ []) $ split ! $ move ! (1 ∷ []) $
+        use1 W (handed-out l₂ a₇ δ₇ (ws₆ .0) u₇) (id⊢ 𝓤 _) $ await ! tt $ pick ! (λ t₇.
+        split ! $ move ! (1 ∷ []) $ use1 W (left-by l₂ a₇ δ₇ (ws₆ .0) t₇) (id⊢ 𝓤 _) $ pick ! (λ ws₇.
+        split ! $ move ! (1 ∷ []) $ heard ! (Said (ws₆ .0) t₇ (ws₇ .0)) (λ e₇. fsplit ! $ move ! (2 ∷ []) $ split ! $ move ! (1 ∷ []) $
         peeks ! S.the-row (Is S.the-row) (shows 𝓤 H A S.the-row) t₇ (u₇ ∷ []) (λ is₇.
         land ! (from ! (stop !)) (store ! 46 refl (EL.lawful S.the-type S′.the-laws 𝓤 H A W tt .typed t₇ _ is₇ .0)) $
         -- the lifetime is ended, and the local comes back
@@ -331,7 +347,7 @@ module _ {M : Type 1} (𝓤 : URA M) (H : Heap 𝓤) (A : Atoms 𝓤) (W : Given
         -- what was handed out is shown
         move ! (3 ∷ []) $ use1 W (raw (Show 𝓤 H A at-mem run .pre (to-show t₇ u₇))) (goes-show t₇ u₇) $
         calls-at ! fm (Show 𝓤 H A at-mem run) known-show (to-show t₇ u₇) (and-then ! (load ! (from ! (stop !)) (look ! 45 refl)) (no-more !)) (λ w₇.
-        use1 W (later (some (λ (z : Unit {0}). (‵ ftrue ⊛ ‵ (unit .own z (w₇ ∷ []))) ⊛ raw (ensured 𝓤 H A show.ended (show.clauses 𝓤 H A at-mem run) tt (t₇, tt) tt z)))) (id⊢ 𝓤 _) $ await ! tt $ pick ! (λ z₇.
+        use1 W (shown t₇ w₇) (id⊢ 𝓤 _) $ await ! tt $ pick ! (λ z₇.
         split ! $ split ! $ move ! (1 ∷ []) $ facts ! unit (Is unit) (shows 𝓤 H A unit) z₇ (w₇ ∷ []) (λ iz₇.
         land ! (from ! (stop !)) (store ! 48 refl (nothing-lawful 𝓤 H A W .typed z₇ _ iz₇ .0)) $
         assigns ! (of-opd ! (unit-lit !)) (from ! (stop !)) (init ! 55 refl (tt, tt)) $
