@@ -1,18 +1,19 @@
--- The numbers that each of the calls for C can give: 0 where it succeeds, those that document 01 names for it, and no other.
+-- The numbers that each of the calls for C gives: 0 where it succeeds, those that document 01 names for it, and no other.
 use Prim.Native.Nat.{ℕ, _≤_}
 use mathlib.Core.Bool.{Bool, true, false, cond, not}
-use mathlib.Core.List.{List}
+use mathlib.Core.List.{List, [], _∷_, map}
 use mathlib.Core.Logic.{_⊎_, inl, inr}
 use mathlib.Core.Path.{_≡_, refl, sym, ap, subst}
 use native.Mathlib.Omega.{arith}
 use lib.Dec.{ltb, eqb}
-use lib.ListN.{length}
+use lib.ListN.{length, set, replicate}
 use Rattle.rules.specs.Job.{place, places, entry-number, entered, start, recorded}
 use Rattle.rules.specs.Bytes.{refusal, said}
 use Rattle.rules.specs.Plan.{entry, room, shaped}
 use Rattle.rules.specs.Calls.{Planning, refused, no-room, overrun, planned, refused-move, moved-to, started, is-place, followed}
 use Rattle.rules.specs.Calls.{refused-advice, advice-of, advised}
 use Rattle.rules.specs.Answers as answers
+use Rattle.rules.specs.Examples.{plate}
 use Rattle.rules.proofs.Kept.{kept}
 use Rattle.rules.proofs.Numbers.{refusal-range}
 use Rattle.rules.proofs.Unique.{no-overrun}
@@ -86,3 +87,33 @@ advice-range b p s q r e =
     (past-advice OfAdvice (ltb (length p) (room j)) 7 at (inr (inl refl))
     (past-advice OfAdvice (not (is-place j s q)) 9 known (inr (inr (inl refl)))
     (past-advice OfAdvice (not shape) 10 (advice-of x) (inr (inr (inr refl))) (inl of-success)))))
+
+-- ---- and each of them is given: of One plate, and of One plate with one byte changed or none left
+
+abbrev jobs : List (List ℕ)
+jobs = plate ∷ [] ∷ set plate 0 17 ∷ set plate 16 0 ∷ set plate 22 4 ∷ set plate 27 3 ∷ set plate 44 3 ∷ []
+
+abbrev of-job : List ℕ
+of-job = 0 ∷ 1 ∷ 2 ∷ 3 ∷ 4 ∷ 5 ∷ 6 ∷ []
+
+pub start-given : map (λ (b : List ℕ). started b .refusal) jobs ≡ of-job
+start-given = refl
+
+pub follow-given : (map (λ (b : List ℕ). followed b 0 0 0 1 .refusal) jobs ≡ of-job)
+    × (followed plate 4 0 0 1 .refusal ≡ 9)
+    × (followed plate 0 0 0 2 .refusal ≡ 11)
+follow-given = (refl, refl, refl)
+
+-- a plan whose first entry is the one of a losing place, and every other byte 0
+abbrev scribbled : List ℕ
+scribbled = set (replicate 48 0) 1 255
+
+pub advice-given : (map (λ (b : List ℕ). advised b scribbled 0 0 .refusal) jobs ≡ of-job)
+    × (advised plate [] 0 0 .refusal ≡ 7)
+    × (advised plate scribbled 4 0 .refusal ≡ 9)
+    × (advised plate scribbled 0 1 .refusal ≡ 10)
+advice-given = (refl, refl, refl, refl)
+
+-- planning refuses the same jobs by the same numbers (`refused`), and gives 7 too
+pub plan-given : Planning plate [] 7 []
+plan-given = no-room refl (omega arith)
