@@ -1,13 +1,13 @@
--- The decimal text of a number is what the kit's digits say, at the fewest that hold it.
+-- The decimal text of a number: it is what the kit's digits say at the fewest that hold it, says its number, and is short.
 use Prim.Native.Nat.{ℕ, zero, suc, _+_, _-_, _*_, _/_, _%_, _^_, _≤_, _<_}
 use mathlib.Core.Bool.{Bool, true, false, cond}
 use mathlib.Core.List.{List, [], _∷_, _++_}
-use mathlib.Core.Path.{_≡_, refl, ap}
+use mathlib.Core.Path.{_≡_, refl, sym, ap, _∙_}
 use native.Mathlib.Nat.{pow-suc, one-le-pow}
 use native.Mathlib.Omega.{arith}
 use borrow.Author.Tests.{lt-ltb, le-ltb, ltb-false}
 use lib.Dec.{ltb}
-use lib.ListN.{length, length-append}
+use lib.ListN.{length, getD, length-append, List·getD-append}
 use Rattle.io.specs.Digits.{digits, Fewest}
 use Rattle.text.specs.Lines.{decimal-in, decimal}
 
@@ -35,6 +35,57 @@ decimal-of (suc t) n (suc (suc k)) h f =
 pub decimal-digits : (n k : ℕ) → Fewest 10 1 n k → digits 10 k n ≡ decimal n
 unfolding decimal
 decimal-digits n k f = decimal-of (suc n) n k (omega arith) f
+
+-- ---- it says its number, and has no zero in front
+
+-- the number that digits say, read from the front
+abbrev pub read-on : ℕ → List ℕ → ℕ
+read-on n [] = n
+read-on n (d ∷ ds) = read-on (n * 10 + (d - 48)) ds
+
+read-last : (n : ℕ) (ds : List ℕ) (d : ℕ) → read-on n (ds ++ (d ∷ [])) ≡ read-on n ds * 10 + (d - 48)
+read-last n [] d = refl
+read-last n (e ∷ ds) d = read-last (n * 10 + (e - 48)) ds d
+
+-- what is shown of the decimal text of n: it has a digit, says n, and begins with 0 only where n is 0
+record Says (n : ℕ) (ds : List ℕ) : Type 0 where
+  some : 0 < length ds
+  number : read-on 0 ds ≡ n
+  front : getD ds 0 0 ≡ 48 → n ≡ 0
+
+-- one digit, or the digits before the last and the last
+says-step : (n : ℕ) (ds : List ℕ) (b : Bool) → ltb n 10 ≡ b → (10 ≤ n → Says (n / 10) ds)
+    → Says n (cond b ((48 + n) ∷ []) (ds ++ ((48 + n % 10) ∷ [])))
+says-step n ds true e before = record { some = omega arith; number = omega arith; front = λ z. omega arith }
+says-step n ds false e before =
+    let large : 10 ≤ n = ltb-false n 10 e in
+    let s = before large in
+    let last = (48 + n % 10) ∷ [] in
+    record {
+      some = omega (arith, length-append ds last, s .some);
+      number = omega (arith, read-last 0 ds (48 + n % 10), s .number);
+      front = λ z.
+          let small : n / 10 ≡ 0 = s .front (sym (List·getD-append ds last 0 0 (s .some)) ∙ z) in
+          absurd (omega arith);
+    }
+
+says-in : (turns n : ℕ) → n < turns → Says n (decimal-in turns n)
+unfolding decimal-in
+says-in zero n h = absurd (omega arith)
+says-in (suc t) n h = says-step n (decimal-in t (n / 10)) (ltb n 10) refl (λ large. says-in t (n / 10) (omega arith))
+
+-- Read as a number, the decimal text of n says n; so no two numbers have the same text.
+pub decimal-says : (n : ℕ) → read-on 0 (decimal n) ≡ n
+unfolding decimal
+decimal-says n = says-in (suc n) n (omega arith) .number
+
+pub decimal-unique : (m n : ℕ) → decimal m ≡ decimal n → m ≡ n
+decimal-unique m n e = sym (decimal-says m) ∙ ap (read-on 0) e ∙ decimal-says n
+
+-- It begins with 0 only where the number is 0.
+pub decimal-front : (n : ℕ) → getD (decimal n) 0 0 ≡ 48 → n ≡ 0
+unfolding decimal
+decimal-front n z = says-in (suc n) n (omega arith) .front z
 
 -- ---- how long it is
 

@@ -136,3 +136,7 @@ put-whole {l} {w} {at = at} h a = (
   a .bytes ∙ rw (take-all (length l - at) w (omega arith)),
   omega (arith, a .position),
 )
+
+-- Two results that one promise allows are the same.
+pub put-unique : {l w m n : List ℕ} {at p q : ℕ} → Put l at w m p → Put l at w n q → (m ≡ n) × (p ≡ q)
+put-unique a b = (a .bytes ∙ sym (b .bytes), a .position ∙ sym (b .position))
