@@ -20,12 +20,13 @@ use Rattle.rules.specs.declared.place.Place.{Place}
 use Rattle.rules.proofs.Tests.{and-iff, or-iff, ltb-iff, leb-iff, eqb-iff}
 use Rattle.rules.proofs.Numbers.{refusal-range}
 use Rattle.rules.proofs.Arenas.{inside-iff, start-inside}
-use Rattle.labelling.proofs.Demands.{planned-right}
+use Rattle.rules.proofs.Planned.{planned-right}
 use Rattle.cabinet.proofs.Advising.{right-shaped}
 use Rattle.text.specs.Lines.{decimal, value-word, action-word, entry-line, start-line, refusal-line}
 use Rattle.text.proofs.Digits.{decimal-length}
 use Rattle.text.proofs.Putting.{put-whole}
-use Rattle.listing.specs.Listing.{planned-entry, first-line, place-line, lines, Prints, refuses, lists, Printed}
+use Rattle.listing.specs.Listing.{planned-entry, first-line, place-line, lines, Prints, refuses, lists}
+use Rattle.listing.specs.Told.{Printed}
 use Rattle.listing.proofs.Telling.{each-last}
 use Rattle.listing.proofs.Listings.{keeps}
 

@@ -20,13 +20,13 @@ use Rattle.job.specs.declared.layout.Layout.{Layout}
 use Rattle.job.specs.declared.layout.Reading.{Reading}
 use Rattle.job.proofs.Asking.{states-said, goals-said}
 use Rattle.job.proofs.Readings.{read-refused-some}
-use Rattle.labelling.proofs.Demands.{planned-exactly}
+use Rattle.rules.proofs.Planned.{planned-exactly}
 use Rattle.cabinet.proofs.Advising.{advice-planned}
 use Rattle.cabinet.proofs.Answering.{was-read}
 use Rattle.text.specs.Put.{Put}
 use Rattle.text.specs.Lines.{refusal-line}
-use Rattle.listing.specs.Listing.{first-line, place-line, lines, listing, advice-line, value-line, moved-line, advised-line}
-use Rattle.listing.specs.Listing.{started-line, refuses, lists, Printed}
+use Rattle.listing.specs.Listing.{first-line, place-line, lines, listing, refuses, lists}
+use Rattle.listing.specs.Told.{advice-line, value-line, moved-line, advised-line, started-line, Printed}
 use Rattle.listing.proofs.Telling.{lines-same}
 
 module _ {b before after : List ℕ} (done : Planning b before 0 after) where

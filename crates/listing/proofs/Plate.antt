@@ -17,7 +17,7 @@ use Rattle.rules.proofs.Rounds.{win, hope}
 use Rattle.rules.proofs.Right.{by-rounds, right-iff}
 use Rattle.rules.proofs.Kept.{kept}
 use Rattle.rules.proofs.Arenas.{inside-iff, start-inside, arena-lawful}
-use Rattle.labelling.proofs.Demands.{planned-exactly, planned-right}
+use Rattle.rules.proofs.Planned.{planned-exactly, planned-right}
 use Rattle.text.specs.Lines.{decimal-in, decimal, bytes, entry-line, start-line}
 use Rattle.listing.specs.Listing.{planned-entry, place-line, lines, listing, Prints, refuses, lists}
 use Rattle.listing.proofs.Telling.{lines-same}

@@ -17,7 +17,8 @@ use Rattle.cabinet.specs.declared.place.Place.{Place}
 use Rattle.text.specs.Put.{Put}
 use Rattle.text.specs.Lines.{refusal-line}
 use Rattle.text.proofs.Putting.{put-then}
-use Rattle.listing.specs.Listing.{lines, or-refused, advice-line, value-line, moved-line}
+use Rattle.listing.specs.Listing.{lines}
+use Rattle.listing.specs.Told.{or-refused, advice-line, value-line, moved-line}
 
 -- An answer x was matched as y, its figures are f, and the text of y's figures was put: it is the text of f.
 pub told : {X F : Type 0} (figures : X → F) (text : F → List ℕ) {l m : List ℕ} {at n : ℕ} {x y : X} {f : F} {t : List ℕ} → x ≡ y

@@ -1,2 +1,3 @@
 -- What the listing prints.
 pub mod Listing
+pub mod Told

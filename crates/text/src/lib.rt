@@ -1,4 +1,5 @@
 // Text put together in a buffer: bytes, words, numbers, and the lines that the programs print.
+// Each function puts its text in a line at a position and answers the position after it; what the line has no room for is left out.
 ghost use mathlib.Core.List.{[], _∷_, _++_};
 ghost use Rattle.rules.specs.Answers.{value-number, refusal-number};
 ghost use Rattle.text.specs.Put.{Put};
@@ -6,7 +7,6 @@ ghost use Rattle.text.specs.Lines.{decimal, value-word, action-word, ent
 use rules::answer::Refusal;
 use rules::answer::Value;
 
-// Each function puts its text in the line at a position and answers the position after it; what the line has no room for is left out.
 pub fn put(line: &mut [u8], at: usize, byte: u8) -> usize
     ensures { λ r. ⌜ Put (now (line .entry)) at (byte ∷ []) (now (line .exit)) r ⌝ }
 {

@@ -3,7 +3,7 @@ use mathlib.Core.Path.{refl}
 use borrow.Author.Needs.{needs}
 use Rattle.rules.specs.Answers.{advised-figures}
 use Rattle.rules.specs.declared.answer.Advised.{Advised}
-use Rattle.listing.specs.Listing.{value-line}
+use Rattle.listing.specs.Told.{value-line}
 use Rattle.listing.proofs.Telling.{told, told-refused, value-refused}
 use Rattle.listing.proofs.list_first.Statement.{statement}
 use Rattle.listing.proofs.list_first.Tie as tie

@@ -3,7 +3,7 @@ use mathlib.Core.Path.{refl}
 use borrow.Author.Needs.{needs}
 use Rattle.rules.specs.Answers.{advised-figures}
 use Rattle.rules.specs.declared.answer.Advised.{Advised}
-use Rattle.listing.specs.Listing.{advice-line}
+use Rattle.listing.specs.Told.{advice-line}
 use Rattle.listing.proofs.Telling.{told, told-refused, advice-refused}
 use Rattle.listing.proofs.list_place.Statement.{statement}
 use Rattle.listing.proofs.list_place.Tie as tie

@@ -2,7 +2,7 @@
 use borrow.Author.Needs.{needs}
 use Rattle.cabinet.specs.Figures.{moved-figures}
 use Rattle.cabinet.specs.declared.place.Moved.{Moved}
-use Rattle.listing.specs.Listing.{moved-line}
+use Rattle.listing.specs.Told.{moved-line}
 use Rattle.listing.proofs.Telling.{told, told-refused, moved-refused, moved-says}
 use Rattle.listing.proofs.list_start.Statement.{statement}
 use Rattle.listing.proofs.list_start.Tie as tie

@@ -5,7 +5,8 @@ use borrow.Author.Needs.{needs}
 use Rattle.rules.specs.Job.{upto, each}
 use Rattle.text.specs.Put.{Put}
 use Rattle.text.proofs.Putting.{put-none, put-length}
-use Rattle.listing.specs.Listing.{lines, advised-line}
+use Rattle.listing.specs.Listing.{lines}
+use Rattle.listing.specs.Told.{advised-line}
 use Rattle.listing.proofs.Telling.{put-next, put-upto}
 use Rattle.listing.proofs.list_states.Statement.{statement}
 use Rattle.listing.proofs.list_states.Tie as tie
