@@ -6,20 +6,20 @@ use mathlib.Core.Path.{_≡_, refl, _∙_}
 use native.Mathlib.Omega.{arith}
 use borrow.Author.Tests.{eq-eqb, lt-ltb, le-ltb, le-leb}
 use lib.ListN.{length, drop, length-append}
-use Rattle.rules.specs.Game.{Inside, Right, lost, met, wins, hopes, says}
+use Rattle.game.specs.Game.{Inside, Right, lost, met, wins, hopes, says}
 use Rattle.rules.specs.Job.{place, places, arena}
 use Rattle.rules.specs.Bytes.{refusal, said}
 use Rattle.rules.specs.Keeps.{Keeps}
 use Rattle.rules.specs.Plan.{room, blank, due, shaped}
 use Rattle.rules.specs.Calls.{Planning, refused, no-room, overrun, planned, is-place, advice-of, advised}
 use Rattle.rules.specs.declared.place.Place.{Place}
-use Rattle.rules.specs.declared.entry.Entry.{Entry}
-use Rattle.rules.proofs.Search.{clash}
-use Rattle.rules.proofs.Tests.{and-iff, ltb-iff}
+use Rattle.game.specs.declared.entry.Entry.{Entry}
+use Rattle.game.proofs.Search.{clash}
+use Rattle.game.proofs.Tests.{and-iff, ltb-iff}
 use Rattle.rules.proofs.Kept.{kept}
-use Rattle.rules.proofs.Rounds.{win}
-use Rattle.rules.proofs.Values.{wins-iff}
-use Rattle.rules.proofs.Bounds.{wins-below, hopes-below}
+use Rattle.game.proofs.Rounds.{win}
+use Rattle.game.proofs.Values.{wins-iff}
+use Rattle.game.proofs.Bounds.{wins-below, hopes-below}
 use Rattle.rules.proofs.Entries.{shaped-winning, shaped-pending}
 use Rattle.rules.proofs.Arenas.{inside-iff, size-of, arena-lawful}
 use Rattle.rules.proofs.Planned.{entry-of, planned-exactly, planned-right}

@@ -15,7 +15,7 @@ use Rattle.rules.specs.Calls.{refused-move, moved-to, started, is-place, follow
 use Rattle.rules.specs.declared.answer.Advised.{Advised}
 use Rattle.rules.specs.declared.answer.Refusal.{Refusal}
 use Rattle.rules.specs.declared.answer.Value.{Value}
-use Rattle.rules.specs.declared.entry.Entry.{Entry}
+use Rattle.game.specs.declared.entry.Entry.{Entry}
 use Rattle.rules.specs.declared.entry.Shape.{Shape}
 use Rattle.rules.proofs.Kept.{kept}
 use Rattle.job.specs.Found.{FoundOf}

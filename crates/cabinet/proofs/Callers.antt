@@ -7,16 +7,16 @@ use mathlib.Core.Path.{_≡_, refl, sym, subst}
 use native.Mathlib.Omega.{arith}
 use borrow.Author.Tests.{eq-eqb}
 use lib.Dec.{eqb}
-use Rattle.rules.specs.Game.{Arena, Play, begin, then, last, Choice, stop, act, Inside, Listed, Unmet, Way, advance, run, Obeys, WinsIn}
+use Rattle.game.specs.Game.{Arena, Play, begin, then, last, Choice, stop, act, Inside, Listed, Unmet, Way, advance, run, Obeys, WinsIn}
 use Rattle.rules.specs.Job.{arena}
 use Rattle.rules.specs.Bytes.{said}
 use Rattle.rules.specs.Keeps.{Keeps}
 use Rattle.rules.specs.Answers.{MovedFigures}
 use Rattle.rules.specs.Calls.{moved-to, followed}
 use Rattle.rules.specs.declared.place.Place.{Place}
-use Rattle.rules.proofs.Search.{clash}
+use Rattle.game.proofs.Search.{clash}
 use Rattle.rules.proofs.Arenas.{arena-lawful}
-use Rattle.rules.proofs.Following.{heed, heed-open, tight}
+use Rattle.game.proofs.Following.{heed, heed-open, tight}
 use Rattle.cabinet.specs.Playing.{Caller, turn, turns, Stands, Met, AsListed}
 use Rattle.cabinet.proofs.Starting.{followed-listed}
 use Rattle.cabinet.proofs.Turns.{at, stands-inside, inside-stands, listed-taken, refused-ends}

@@ -7,7 +7,7 @@ use mathlib.Core.Path.{_≡_, refl}
 use borrow.Author.Tests.{eq-eqb, ne-eqb, lt-ltb, le-ltb}
 use lib.Dec.{ltb, eqb}
 use lib.ListN.{length}
-use Rattle.rules.specs.Game.{Play, last, Inside, Way, run, Obeys, Follows, Right}
+use Rattle.game.specs.Game.{Play, last, Inside, Way, run, Obeys, Follows, Right}
 use Rattle.rules.specs.Job.{place, places, entry-number, entered, start, recorded, arena}
 use Rattle.rules.specs.Bytes.{refusal, said}
 use Rattle.rules.specs.Keeps.{Keeps}
@@ -15,7 +15,7 @@ use Rattle.rules.specs.Plan.{entry, room, shaped}
 use Rattle.rules.specs.Calls.{Planning, refused, no-room, overrun, planned, refused-move, moved-to, started, is-place, followed}
 use Rattle.rules.specs.Calls.{refused-advice, advice-of, advised}
 use Rattle.rules.specs.Answers as answers
-use Rattle.rules.specs.Demands.{ValueTold, WinningKept, PendingKept}
+use Rattle.game.specs.Demands.{ValueTold, WinningKept, PendingKept}
 use Rattle.rules.specs.declared.place.Place.{Place}
 use Rattle.rules.proofs.Kept.{kept}
 use Rattle.rules.proofs.Unique.{no-overrun}

@@ -5,20 +5,20 @@ use mathlib.Core.Logic.{_⊎_, inl, inr}
 use mathlib.Core.Path.{_≡_, refl, sym, ap, _∙_, subst}
 use native.Mathlib.Omega.{arith}
 use borrow.Author.Tests.{eq-eqb}
-use Rattle.rules.specs.Game.{Arena, Play, begin, then, last, made, stop, act, Inside, Open, Accepted, Lawful, Winning, Pending, WinsIn}
-use Rattle.rules.specs.Game.{HopesIn, Right, lost, met, wins, hopes}
+use Rattle.game.specs.Game.{Arena, Play, begin, then, last, made, stop, act, Inside, Open, Accepted, Lawful, Winning, Pending, WinsIn}
+use Rattle.game.specs.Game.{HopesIn, Right, lost, met, wins, hopes}
 use Rattle.rules.specs.Job.{arena}
 use Rattle.rules.specs.Bytes.{said}
 use Rattle.rules.specs.Keeps.{Keeps}
 use Rattle.rules.specs.Answers.{MovedFigures}
 use Rattle.rules.specs.Calls.{Planning, moved-to, followed, advice-of}
 use Rattle.rules.specs.declared.place.Place.{Place}
-use Rattle.rules.specs.declared.entry.Entry.{Entry}
-use Rattle.rules.proofs.Search.{least-unique}
-use Rattle.rules.proofs.Plays.{some-obeys}
-use Rattle.rules.proofs.Hopes.{wins-winning, hopes-iff}
-use Rattle.rules.proofs.Right.{pending-at}
-use Rattle.rules.proofs.Following.{says-wins, hopes-says, right-named, open-named}
+use Rattle.game.specs.declared.entry.Entry.{Entry}
+use Rattle.game.proofs.Search.{least-unique}
+use Rattle.game.proofs.Plays.{some-obeys}
+use Rattle.game.proofs.Hopes.{wins-winning, hopes-iff}
+use Rattle.game.proofs.Right.{pending-at}
+use Rattle.game.proofs.Following.{says-wins, hopes-says, right-named, open-named}
 use Rattle.rules.proofs.Arenas.{arena-lawful}
 use Rattle.rules.proofs.Planned.{entry-of, planned-exactly, planned-right}
 use Rattle.cabinet.specs.Playing.{Caller, turn, turns, told, heeds, Stands, AsListed, Allows}

@@ -7,21 +7,21 @@ use native.Mathlib.Nat.{le-of-suc-le-suc, lt-of-not-le}
 use native.Mathlib.Omega.{arith}
 use borrow.Author.Tests.{eq-eqb}
 use lib.ListN.{length}
-use Rattle.rules.specs.Game.{Arena, Play, begin, last, made, says, Inside, Open, Accepted, Unmet, Lawful, Winning, WinsIn, HopesIn}
-use Rattle.rules.specs.Game.{Right, lost, met, wins, hopes}
+use Rattle.game.specs.Game.{Arena, Play, begin, last, made, says, Inside, Open, Accepted, Unmet, Lawful, Winning, WinsIn, HopesIn}
+use Rattle.game.specs.Game.{Right, lost, met, wins, hopes}
 use Rattle.rules.specs.Job.{place, start, arena}
 use Rattle.rules.specs.Bytes.{refusal, said}
 use Rattle.rules.specs.Answers.{MovedFigures, AdvisedFigures}
 use Rattle.rules.specs.Calls.{Planning, moved-to, started, advice-of, advised}
 use Rattle.rules.specs.declared.place.Place.{Place}
-use Rattle.rules.specs.declared.entry.Entry.{Entry}
-use Rattle.rules.proofs.Search.{clash}
-use Rattle.rules.proofs.Bounds.{wins-within}
-use Rattle.rules.proofs.Values.{accepted-winning}
-use Rattle.rules.proofs.Hopes.{wins-winning}
-use Rattle.rules.proofs.Right.{right-unique}
-use Rattle.rules.proofs.Following.{says-wins, says-hopes}
-use Rattle.rules.proofs.Visiting.{goes-hoped, goes-possible}
+use Rattle.game.specs.declared.entry.Entry.{Entry}
+use Rattle.game.proofs.Search.{clash}
+use Rattle.game.proofs.Bounds.{wins-within}
+use Rattle.game.proofs.Values.{accepted-winning}
+use Rattle.game.proofs.Hopes.{wins-winning}
+use Rattle.game.proofs.Right.{right-unique}
+use Rattle.game.proofs.Following.{says-wins, says-hopes}
+use Rattle.game.proofs.Visiting.{goes-hoped, goes-possible}
 use Rattle.rules.proofs.Kept.{kept}
 use Rattle.rules.proofs.Arenas.{start-inside, arena-lawful}
 use Rattle.rules.proofs.Planned.{entry-of}

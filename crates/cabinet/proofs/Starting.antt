@@ -8,14 +8,14 @@ use mathlib.Core.Path.{_≡_, refl, sym, ap}
 use native.Mathlib.Omega.{arith}
 use borrow.Author.Tests.{eq-eqb, eqb-true, eqb-false, not-false, not-true}
 use lib.Dec.{eqb}
-use Rattle.rules.specs.Game.{Inside, Listed}
+use Rattle.game.specs.Game.{Inside, Listed}
 use Rattle.rules.specs.Job.{Job, place, entered, start, recorded, arena}
 use Rattle.rules.specs.Bytes.{refusal, said}
 use Rattle.rules.specs.Keeps.{Keeps}
 use Rattle.rules.specs.Answers.{MovedFigures}
 use Rattle.rules.specs.declared.place.Place.{Place}
 use Rattle.rules.specs.Calls.{refused-move, moved-to, started, is-place, followed}
-use Rattle.rules.proofs.Tests.{and-iff, ltb-iff}
+use Rattle.game.proofs.Tests.{and-iff, ltb-iff}
 use Rattle.rules.proofs.Kept.{kept}
 use Rattle.rules.proofs.Arenas.{inside-iff, is-record-iff, recorded-iff, leads-iff, entered-inside, start-inside}
 

@@ -3,10 +3,10 @@
 use Prim.Native.Nat.{ℕ, zero, suc}
 use mathlib.Core.List.{List}
 use mathlib.Core.Path.{_≡_, refl, sym, ap, _∙_, subst}
-use Rattle.rules.specs.Game.{Play, begin, then, last}
+use Rattle.game.specs.Game.{Play, begin, then, last}
 use Rattle.rules.specs.Job.{start, arena}
 use Rattle.rules.specs.Bytes.{said}
-use Rattle.rules.specs.Visits.{trace}
+use Rattle.game.specs.Visits.{trace}
 use Rattle.rules.specs.Trace.{reads, accepts}
 use Rattle.rules.specs.Answers.{MovedFigures}
 use Rattle.rules.specs.Calls.{moved-to, started, followed}

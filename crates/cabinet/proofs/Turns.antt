@@ -7,17 +7,17 @@ use mathlib.Core.Path.{_≡_, refl, sym, ap, _∙_, subst}
 use native.Mathlib.Omega.{arith}
 use borrow.Author.Tests.{eq-eqb, ne-eqb, eqb-true, eqb-false}
 use lib.Dec.{eqb}
-use Rattle.rules.specs.Game.{Play, then, last, made, Choice, stop, act, Inside, Listed}
+use Rattle.game.specs.Game.{Play, then, last, made, Choice, stop, act, Inside, Listed}
 use Rattle.rules.specs.Job.{place, recorded, arena}
 use Rattle.rules.specs.Bytes.{refusal, said}
 use Rattle.rules.specs.Keeps.{Keeps}
-use Rattle.rules.specs.Visits.{Goes, so-far, further}
+use Rattle.game.specs.Visits.{Goes, so-far, further}
 use Rattle.rules.specs.Answers.{MovedFigures}
 use Rattle.rules.specs.Calls.{moved-to, is-place, followed}
 use Rattle.rules.specs.declared.place.Place.{Place}
-use Rattle.rules.proofs.Tests.{and-iff, ltb-iff}
+use Rattle.game.proofs.Tests.{and-iff, ltb-iff}
 use Rattle.rules.proofs.Kept.{kept}
-use Rattle.rules.proofs.Visiting.{goes-on}
+use Rattle.game.proofs.Visiting.{goes-on}
 use Rattle.rules.proofs.Arenas.{inside-iff}
 use Rattle.cabinet.specs.Playing.{Caller, turn, turns, Stands, AsListed, Allows}
 use Rattle.cabinet.proofs.Starting.{followed-inside, followed-listed, recorded-followed, listed-followed}

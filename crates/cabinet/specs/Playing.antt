@@ -7,7 +7,7 @@ use mathlib.Core.Logic.{_⊎_}
 use mathlib.Core.Path.{_≡_}
 use lib.Dec.{eqb}
 use lib.ListN.{length}
-use Rattle.rules.specs.Game.{Play, then, last, made, Choice, stop, act, says, Accepted}
+use Rattle.game.specs.Game.{Play, then, last, made, Choice, stop, act, says, Accepted}
 use Rattle.rules.specs.Job.{place, arena}
 use Rattle.rules.specs.Bytes.{said}
 use Rattle.rules.specs.Answers.{MovedFigures, AdvisedFigures}

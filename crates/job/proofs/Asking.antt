@@ -6,7 +6,7 @@ use mathlib.Core.Path.{_≡_}
 use native.Mathlib.Nat.{mul-le-mul}
 use native.Mathlib.Omega.{arith}
 use lib.Arith.{digits-lt}
-use Rattle.rules.specs.Game.{Inside, Lawful}
+use Rattle.game.specs.Game.{Inside, Lawful}
 use Rattle.rules.specs.Job.{is-record, entered, start, places, arena}
 use Rattle.rules.specs.Bytes.{said}
 use Rattle.rules.proofs.Kept as kept

@@ -10,10 +10,10 @@ use native.Mathlib.Omega.{arith}
 use lib.Dec.{leb, ltb, leb·suc-suc, eqb·suc-zero}
 use lib.ListN.{length, getD}
 use lib.Pow.{pow-mono}
-use Rattle.rules.specs.Job.{every-below}
+use Rattle.game.specs.Below.{every-below}
 use Rattle.rules.specs.Bytes.{offset, size, record-at, rows, mark, said, contents, good}
 use Rattle.rules.specs.declared.place.Move.{Move}
-use Rattle.rules.proofs.Tests.{every-below-ext}
+use Rattle.game.proofs.Tests.{every-below-ext}
 use Rattle.rules.proofs.Judged.{InRange, contents-iff, range-iff}
 use Rattle.job.specs.Layout.{layout, Laid, in-ranges, good-after}
 use Rattle.job.specs.declared.layout.Layout.{Layout}

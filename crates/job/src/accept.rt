@@ -3,7 +3,7 @@ ghost use mathlib.Core.Path.{_≡_};
 ghost use mathlib.Core.Bool.{true};
 ghost use Prim.Native.Nat.{_≤_};
 ghost use lib.ListN.{length};
-ghost use Rattle.rules.specs.Job.{every-below};
+ghost use Rattle.game.specs.Below.{every-below};
 ghost use Rattle.rules.specs.Bytes.{said, contents, labels, within, good, moves, goal};
 ghost use Rattle.job.specs.Layout.{layout, Laid, in-ranges, good-after};
 ghost use Rattle.job.specs.Reading.{reading, reading-figures};

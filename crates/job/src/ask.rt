@@ -18,7 +18,7 @@ fn label(job: &[u8], l: Layout, s: usize) -> usize
     requires { ⌜ s < l .states ⌝ }
     ensures { λ r. ⌜ r ≡ said (now (job .entry)) .label s ⌝ }
 {
-    rules::label::part_below(job[l.labels_at + s], l.propositions) as usize
+    sets::label::part_below(job[l.labels_at + s], l.propositions) as usize
 }
 
 // The goal state after entering state t from goal state q.

@@ -3,7 +3,7 @@ ghost use mathlib.Core.Path.{_≡_};
 ghost use Prim.Native.Nat.{_+_, _*_, _^_, _≤_, _<_};
 ghost use lib.Dec.{ltb};
 ghost use lib.ListN.{length, getD};
-ghost use Rattle.rules.specs.Job.{every-below};
+ghost use Rattle.game.specs.Below.{every-below};
 ghost use Rattle.rules.specs.Bytes.{word, record-at, before};
 use rules::place::Move;
 
@@ -89,7 +89,7 @@ pub fn labels_below(job: &[u8], at: usize, n: usize, p: u8) -> bool
 {
     let mut i: usize = 0;
     while i < n {
-        if !rules::label::lies_below(job[at + i], p) {
+        if !sets::label::lies_below(job[at + i], p) {
             return false;
         }
         i += 1;

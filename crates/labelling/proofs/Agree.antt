@@ -3,12 +3,12 @@ use Prim.Native.Nat.{ℕ, zero, suc, _≤_, zero-le}
 use mathlib.Core.Bool.{Bool, true, false, true≢false, _||_}
 use mathlib.Core.Path.{_≡_, refl, ap₂, _∙_}
 use native.Mathlib.Decide.{le-ind}
-use Rattle.rules.specs.Game.{Arena, Inside, Lawful, says}
-use Rattle.rules.specs.declared.entry.Entry.{Entry}
-use Rattle.rules.specs.Job.{some-below}
-use Rattle.rules.proofs.Lists.{some-ext, sure-ext}
-use Rattle.rules.proofs.Search.{lowest, lowest-ext, stays}
-use Rattle.rules.proofs.Tests.{some-below-ext}
+use Rattle.game.specs.Game.{Arena, Inside, Lawful, says}
+use Rattle.game.specs.declared.entry.Entry.{Entry}
+use Rattle.game.specs.Below.{some-below}
+use Rattle.game.proofs.Lists.{some-ext, sure-ext}
+use Rattle.game.proofs.Search.{lowest, lowest-ext, stays}
+use Rattle.game.proofs.Tests.{some-below-ext}
 use Rattle.labelling.specs.declared.scan.Phase.{Phase}
 use Rattle.labelling.specs.Scan.{wanted, phase-value}
 use Rattle.labelling.specs.Rounds.{reached, written}

@@ -3,15 +3,16 @@ use Prim.Native.Nat.{ℕ, _<_}
 use mathlib.Core.Bool.{Bool, true, false}
 use mathlib.Core.Path.{_≡_, sym, _∙_}
 use native.Mathlib.Omega.{arith}
-use Rattle.rules.specs.Sets.{bit}
-use Rattle.rules.specs.Lowest.{LowestOf}
-use Rattle.rules.specs.Game.{Arena, Lawful, Least}
-use Rattle.rules.specs.Job.{Job, arena, some-below}
+use Rattle.sets.specs.Sets.{bit}
+use Rattle.sets.specs.Lowest.{LowestOf}
+use Rattle.game.specs.Game.{Arena, Lawful, Least}
+use Rattle.game.specs.Below.{some-below}
+use Rattle.rules.specs.Job.{Job, arena}
 use Rattle.rules.specs.declared.place.Place.{Place}
-use Rattle.rules.specs.declared.actions.LowestAction.{LowestAction}
-use Rattle.rules.proofs.Lists.{some-found, sure-at, sure-some}
-use Rattle.rules.proofs.Search.{lowest, clash, if-not-true, least-unique}
-use Rattle.rules.proofs.Tests.{some-stops, some-met, lowest-found}
+use Rattle.sets.specs.declared.actions.LowestAction.{LowestAction}
+use Rattle.game.proofs.Lists.{some-found, sure-at, sure-some}
+use Rattle.game.proofs.Search.{lowest, clash, if-not-true, least-unique}
+use Rattle.game.proofs.Tests.{some-stops, some-met, lowest-found}
 use Rattle.labelling.specs.declared.scan.Phase.{Phase}
 use Rattle.labelling.specs.declared.scan.Tally.{Tally}
 use Rattle.labelling.specs.Scan.{Scanned, LowestPassing, tallied-for, wanted}

@@ -3,18 +3,18 @@ use Prim.Native.Nat.{ℕ, _≤_}
 use mathlib.Core.List.{List}
 use mathlib.Core.Path.{_≡_, refl}
 use native.Mathlib.Omega.{arith}
-use Rattle.rules.specs.Game.{Play, last, Inside, Way, run, Obeys, Follows}
+use Rattle.game.specs.Game.{Play, last, Inside, Way, run, Obeys, Follows}
 use Rattle.rules.specs.Job.{arena}
 use Rattle.rules.specs.Bytes.{said}
 use Rattle.rules.specs.Keeps.{Keeps}
 use Rattle.rules.specs.Calls.{Planning}
-use Rattle.rules.specs.Demands.{ValueTold, WinningKept, PendingKept}
+use Rattle.game.specs.Demands.{ValueTold, WinningKept, PendingKept}
 use Rattle.rules.specs.declared.place.Place.{Place}
 use Rattle.rules.proofs.Arenas.{arena-lawful}
 use Rattle.rules.proofs.Planned.{entry-of, planned-exactly, planned-right}
-use Rattle.rules.proofs.Hopes.{run-inside}
-use Rattle.rules.proofs.Following.{follow, follow-follows, follows-on}
-use Rattle.rules.proofs.Demands.{value-told, winning-kept, pending-kept}
+use Rattle.game.proofs.Hopes.{run-inside}
+use Rattle.game.proofs.Following.{follow, follow-follows, follows-on}
+use Rattle.game.proofs.Demands.{value-told, winning-kept, pending-kept}
 
 module _ {b before after : List ℕ} (done : Planning b before 0 after) where
   keeps : Keeps b

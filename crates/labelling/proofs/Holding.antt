@@ -10,20 +10,21 @@ use borrow.Author.Tests.{lt-ltb, le-ltb, eq-eqb, ne-eqb}
 use lib.Arith.{digits-lt, digits-div, digits-mod}
 use lib.Dec.{ltb}
 use lib.ListN.{length, getD}
-use Rattle.rules.specs.Sets.{member, count}
-use Rattle.rules.specs.Game.{Inside, Lawful, says}
-use Rattle.rules.specs.Job.{Job, place, places, entry-number, arena, some-below}
+use Rattle.sets.specs.Sets.{member, count}
+use Rattle.game.specs.Game.{Inside, Lawful, says}
+use Rattle.game.specs.Below.{some-below}
+use Rattle.rules.specs.Job.{Job, place, places, entry-number, arena}
 use Rattle.rules.specs.Bytes.{said}
 use Rattle.rules.specs.Plan.{entry, entry-byte, room, Wrote}
 use Rattle.rules.specs.declared.place.Place.{Place}
-use Rattle.rules.specs.declared.entry.Entry.{Entry}
+use Rattle.game.specs.declared.entry.Entry.{Entry}
 use Rattle.rules.proofs.Arenas.{inside-iff, arena-lawful}
-use Rattle.rules.proofs.Sizes.{count-sub, count-same, count-more}
-use Rattle.rules.proofs.Search.{lowest}
-use Rattle.rules.proofs.Bits.{below-or, same-or}
+use Rattle.sets.proofs.Sizes.{count-sub, count-same, count-more}
+use Rattle.game.proofs.Search.{lowest}
+use Rattle.sets.proofs.Bits.{below-or, same-or}
 use Rattle.rules.proofs.Entries.{read-back}
 use Rattle.rules.proofs.Rows.{row-of}
-use Rattle.rules.proofs.Tests.{and-iff, ltb-iff}
+use Rattle.game.proofs.Tests.{and-iff, ltb-iff}
 use Rattle.job.specs.Layout.{Fit, layout}
 use Rattle.job.specs.declared.layout.Layout.{Layout}
 use Rattle.labelling.specs.declared.scan.Phase.{Phase}

@@ -8,10 +8,10 @@ use native.Mathlib.Omega.{arith}
 use borrow.Author.Tests.{lt-ltb, le-ltb, le-leb, lt-leb, eq-eqb, ne-eqb}
 use lib.Dec.{ltb, eqb}
 use lib.ListN.{getD}
-use Rattle.rules.specs.Sets.{member, Put}
+use Rattle.sets.specs.Sets.{member, Put}
 use Rattle.rules.specs.Plan.{entry-byte, Wrote}
-use Rattle.rules.specs.declared.entry.Entry.{Entry}
-use Rattle.rules.proofs.Bits.{below-or, same-or}
+use Rattle.game.specs.declared.entry.Entry.{Entry}
+use Rattle.sets.proofs.Bits.{below-or, same-or}
 use Rattle.labelling.specs.Pass.{between, Pass}
 
 -- ---- the numbers of a window

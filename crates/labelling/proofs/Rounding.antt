@@ -9,13 +9,13 @@ use borrow.Author.Tests.{lt-ltb}
 use lib.Arith.{digits-lt, digits-div, digits-mod}
 use lib.Dec.{ltb}
 use lib.ListN.{length}
-use Rattle.rules.specs.Sets.{member, Put}
-use Rattle.rules.specs.Game.{says}
+use Rattle.sets.specs.Sets.{member, Put}
+use Rattle.game.specs.Game.{says}
 use Rattle.rules.specs.Job.{place, arena}
 use Rattle.rules.specs.Bytes.{said}
 use Rattle.rules.specs.Plan.{Wrote}
-use Rattle.rules.specs.declared.entry.Entry.{Entry}
-use Rattle.rules.specs.declared.actions.LowestAction.{LowestAction}
+use Rattle.game.specs.declared.entry.Entry.{Entry}
+use Rattle.sets.specs.declared.actions.LowestAction.{LowestAction}
 use Rattle.job.specs.Layout.{Fit}
 use Rattle.job.specs.declared.layout.Layout.{Layout}
 use Rattle.job.proofs.Asking.{few-places, lawful}

@@ -9,12 +9,12 @@ use native.Mathlib.Numerals.{add-one}
 use native.Mathlib.Omega.{arith}
 use borrow.Author.Tests.{eq-eqb, ne-eqb, lt-ltb}
 use lib.Dec.{eqb, ltb}
-use Rattle.rules.specs.Sets.{bit}
+use Rattle.sets.specs.Sets.{bit}
 use Rattle.rules.specs.Job.{Job, is-from, entered, listed}
 use Rattle.rules.specs.declared.place.Place.{Place}
 use Rattle.rules.specs.declared.place.Move.{Move}
-use Rattle.rules.proofs.Lists.{some, some-append, some-map}
-use Rattle.rules.proofs.Bits.{same-or}
+use Rattle.game.proofs.Lists.{some, some-append, some-map}
+use Rattle.sets.proofs.Bits.{same-or}
 use Rattle.labelling.specs.declared.scan.Tally.{Tally}
 use Rattle.labelling.specs.Scan.{From, Tallied, Scanned}
 

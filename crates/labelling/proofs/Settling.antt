@@ -6,15 +6,16 @@ use mathlib.Core.Logic.{inl, inr, ⊎-elim}
 use mathlib.Core.Path.{_≡_, refl, sym, _∙_, subst}
 use native.Mathlib.Numerals.{add-one}
 use native.Mathlib.Omega.{arith}
-use Rattle.rules.specs.Sets.{member, count}
-use Rattle.rules.specs.Game.{Arena, Inside, Lawful, Pending, WinsIn, HopesIn}
-use Rattle.rules.specs.Job.{Job, place, places, arena, some-below}
+use Rattle.sets.specs.Sets.{member, count}
+use Rattle.game.specs.Game.{Arena, Inside, Lawful, Pending, WinsIn, HopesIn}
+use Rattle.game.specs.Below.{some-below}
+use Rattle.rules.specs.Job.{Job, place, places, arena}
 use Rattle.rules.specs.Bytes.{said}
 use Rattle.rules.specs.Keeps.{Keeps}
 use Rattle.rules.specs.declared.place.Place.{Place}
-use Rattle.rules.specs.declared.places.PlaceSet.{PlaceSet}
-use Rattle.rules.specs.declared.entry.Entry.{Entry}
-use Rattle.rules.proofs.Tests.{same-test, last-or-below, some-below-ext}
+use Rattle.sets.specs.declared.places.PlaceSet.{PlaceSet}
+use Rattle.game.specs.declared.entry.Entry.{Entry}
+use Rattle.game.proofs.Tests.{same-test, last-or-below, some-below-ext}
 use Rattle.rules.proofs.Kept.{places-few, places-some}
 use Rattle.rules.proofs.Arenas.{inside-iff, arena-lawful}
 use Rattle.job.specs.Layout.{Fit}

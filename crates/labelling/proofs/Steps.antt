@@ -2,15 +2,15 @@
 use Prim.Native.Nat.{ℕ, zero, suc, _≤_, zero-le}
 use mathlib.Core.Bool.{Bool, true, false, cond, _||_}
 use mathlib.Core.Path.{_≡_, refl, sym, ap, _∙_, subst, subst₂, fun-ext}
-use Rattle.rules.specs.Game.{Arena, Inside, Lawful, Least, Pending, WinsIn, HopesIn, Right, met, says}
-use Rattle.rules.specs.declared.entry.Entry.{Entry}
-use Rattle.rules.specs.Job.{some-below}
-use Rattle.rules.proofs.Lists.{sure, some}
-use Rattle.rules.proofs.Search.{clash, if-not-true, lowest-ext, has-lowest, least-map, not-yet, new}
-use Rattle.rules.proofs.Rounds.{size, win, hope, won, hoped, win-accepted, win-up, win-settled, win-closed, hope-closed}
-use Rattle.rules.proofs.Values.{wins-iff}
-use Rattle.rules.proofs.Hopes.{hopes-iff}
-use Rattle.rules.proofs.Right.{right-wins, right-hopes, right-loses, pending-at}
+use Rattle.game.specs.Game.{Arena, Inside, Lawful, Least, Pending, WinsIn, HopesIn, Right, met, says}
+use Rattle.game.specs.declared.entry.Entry.{Entry}
+use Rattle.game.specs.Below.{some-below}
+use Rattle.game.proofs.Lists.{sure, some}
+use Rattle.game.proofs.Search.{clash, if-not-true, lowest-ext, has-lowest, least-map, not-yet, new}
+use Rattle.game.proofs.Rounds.{size, win, hope, won, hoped, win-accepted, win-up, win-settled, win-closed, hope-closed}
+use Rattle.game.proofs.Values.{wins-iff}
+use Rattle.game.proofs.Hopes.{hopes-iff}
+use Rattle.game.proofs.Right.{right-wins, right-hopes, right-loses, pending-at}
 use Rattle.labelling.specs.declared.scan.Phase.{Phase}
 use Rattle.labelling.specs.Scan.{wanted}
 use Rattle.labelling.specs.Rounds.{reached, written}

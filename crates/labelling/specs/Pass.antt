@@ -5,11 +5,11 @@ use mathlib.Core.List.{List}
 use mathlib.Core.Path.{_≡_}
 use lib.Dec.{leb, ltb}
 use lib.ListN.{length, getD}
-use Rattle.rules.specs.Sets.{member}
+use Rattle.sets.specs.Sets.{member}
 use Rattle.rules.specs.Job.{place}
 use Rattle.rules.specs.Plan.{entry-byte}
 use Rattle.rules.specs.declared.place.Place.{Place}
-use Rattle.rules.specs.declared.entry.Entry.{Entry}
+use Rattle.game.specs.declared.entry.Entry.{Entry}
 
 -- the place whose entry is x
 abbrev pub place-at : ℕ → ℕ → Place

@@ -4,12 +4,13 @@ use mathlib.Core.Bool.{Bool, true, false, cond, not, _&&_}
 use mathlib.Core.List.{List}
 use mathlib.Core.Path.{_≡_}
 use lib.ListN.{length}
-use Rattle.rules.specs.Sets.{member}
-use Rattle.rules.specs.Game.{says}
-use Rattle.rules.specs.Job.{arena, some-below}
+use Rattle.sets.specs.Sets.{member}
+use Rattle.game.specs.Game.{says}
+use Rattle.game.specs.Below.{some-below}
+use Rattle.rules.specs.Job.{arena}
 use Rattle.rules.specs.Bytes.{said}
-use Rattle.rules.specs.declared.entry.Entry.{Entry}
-use Rattle.rules.proofs.Search.{lowest}
+use Rattle.game.specs.declared.entry.Entry.{Entry}
+use Rattle.game.proofs.Search.{lowest}
 use Rattle.job.specs.Layout.{Fit}
 use Rattle.job.specs.declared.layout.Layout.{Layout}
 use Rattle.labelling.specs.declared.scan.Phase.{Phase}

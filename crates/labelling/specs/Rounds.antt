@@ -5,14 +5,15 @@ use mathlib.Core.List.{List}
 use mathlib.Core.Path.{_≡_}
 use lib.Dec.{ltb}
 use lib.ListN.{length, getD}
-use Rattle.rules.specs.Sets.{member}
-use Rattle.rules.specs.Game.{Arena, Inside, Right, says}
-use Rattle.rules.specs.Job.{Job, place, places, entry-number, arena, some-below}
+use Rattle.sets.specs.Sets.{member}
+use Rattle.game.specs.Game.{Arena, Inside, Right, says}
+use Rattle.game.specs.Below.{some-below}
+use Rattle.rules.specs.Job.{Job, place, places, entry-number, arena}
 use Rattle.rules.specs.Plan.{entry, entry-byte, room}
 use Rattle.rules.specs.Calls.{Overrun}
 use Rattle.rules.specs.declared.place.Place.{Place}
-use Rattle.rules.specs.declared.entry.Entry.{Entry}
-use Rattle.rules.proofs.Search.{lowest}
+use Rattle.game.specs.declared.entry.Entry.{Entry}
+use Rattle.game.proofs.Search.{lowest}
 use Rattle.labelling.specs.declared.scan.Phase.{Phase}
 use Rattle.labelling.specs.declared.rounds.Rounds.{Rounds}
 use Rattle.labelling.specs.Scan.{wanted, phase-value}

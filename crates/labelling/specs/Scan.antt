@@ -4,12 +4,12 @@ use mathlib.Core.Bool.{Bool, true, false, not, _&&_, _||_}
 use mathlib.Core.List.{List}
 use mathlib.Core.Path.{_≡_}
 use lib.Dec.{eqb, ltb}
-use Rattle.rules.specs.Sets.{bit, member}
-use Rattle.rules.specs.Game.{Arena}
+use Rattle.sets.specs.Sets.{bit, member}
+use Rattle.game.specs.Game.{Arena}
 use Rattle.rules.specs.Job.{Job, entry-number, arena}
 use Rattle.rules.specs.declared.place.Place.{Place}
-use Rattle.rules.specs.declared.actions.LowestAction.{LowestAction}
-use Rattle.rules.proofs.Lists.{some, sure}
+use Rattle.sets.specs.declared.actions.LowestAction.{LowestAction}
+use Rattle.game.proofs.Lists.{some, sure}
 use Rattle.labelling.specs.declared.scan.Phase.{Phase}
 use Rattle.labelling.specs.declared.scan.Tally.{Tally}
 

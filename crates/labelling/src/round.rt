@@ -6,11 +6,11 @@ ghost use Rattle.job.specs.Layout.{Fit};
 ghost use Rattle.labelling.specs.Scan.{phase-value};
 ghost use Rattle.labelling.specs.Round.{Ready, Passed, Begun, BegunAll};
 use crate::scan::Phase;
+use game::entry::Entry;
 use job::layout::Layout;
-use rules::actions::LowestAction;
-use rules::entry::Entry;
 use rules::place::Place;
-use rules::places::PlaceSet;
+use sets::actions::LowestAction;
+use sets::places::PlaceSet;
 
 // The value that a phase's places have, in a plan.
 fn value_of(phase: Phase) -> u8
@@ -46,13 +46,13 @@ fn label_place(
         goal: q as u16,
     };
     let i = p.entry_number(l.goals as u16);
-    if rules::places::has_place(old, i) {
+    if sets::places::has_place(old, i) {
         return;
     }
     let tally = crate::scan::scan(job, l, old, s, q, start, end);
     match crate::scan::choose(tally, phase) {
         LowestAction::Is(action) => {
-            rules::places::put_place(new, i);
+            sets::places::put_place(new, i);
             let value = value_of(phase);
             rules::entry::write_entry(
                 plan,
@@ -130,7 +130,7 @@ fn begin_place(new: &mut [u64; 64], plan: &mut [u8], job: &[u8], l: Layout, i: u
     ensures { λ _. ⌜ Begun (now (job .entry)) l i (i + 1) (now (new .entry)) (now (plan .entry)) (now (new .exit)) (now (plan .exit)) ⌝ }
 {
     if job::ask::is_final(job, l, i % l.goals) {
-        rules::places::put_place(new, i);
+        sets::places::put_place(new, i);
         let value = rules::answer::Value::Winning.number();
         rules::entry::write_entry(
             plan,

@@ -6,7 +6,7 @@ ghost use Rattle.job.specs.Layout.{Fit};
 ghost use Rattle.labelling.specs.Rounds.{NonePast, Settles, Labelled};
 use crate::scan::Phase;
 use job::layout::Layout;
-use rules::places::PlaceSet;
+use sets::places::PlaceSet;
 
 // What the rounds of a phase leave: the set, and whether a round numbered S·Q still added a place.
 pub struct Rounds {

@@ -6,8 +6,8 @@ ghost use Rattle.rules.specs.Job.{entered, place};
 ghost use Rattle.job.specs.Layout.{Fit};
 ghost use Rattle.labelling.specs.Scan.{in-set, From, Range, Tallied, Scanned, LowestPassing, tallied-for};
 use job::layout::Layout;
-use rules::actions::ActionSet;
-use rules::actions::LowestAction;
+use sets::actions::ActionSet;
+use sets::actions::LowestAction;
 
 // What the rounds of a phase label.
 pub enum Phase {
@@ -48,7 +48,7 @@ fn is_inside(job: &[u8], l: Layout, words: &[u64; 64], q: usize, t: usize) -> bo
     ensures { λ r. ⌜ r ≡ in-set (l .goals) (now (words .entry)) (entered (said (now (job .entry))) q t) ⌝ }
 {
     let p = job::ask::place_entered(job, l, q, t);
-    rules::places::has_place(words, p.entry_number(l.goals as u16))
+    sets::places::has_place(words, p.entry_number(l.goals as u16))
 }
 
 // The tally with one record more: its action is open, and held or spoilt by its outcome.

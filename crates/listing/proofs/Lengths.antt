@@ -10,14 +10,15 @@ use borrow.Author.Tests.{ne-eqb}
 use lib.ListN.{length, take, drop, length-append}
 use lib.Seq.{length-take-le, take-append-seam}
 use Rattle.io.specs.Counts.{Counts}
-use Rattle.rules.specs.Game.{Inside}
-use Rattle.rules.specs.Job.{place, places, start, upto, each, arena}
+use Rattle.game.specs.Game.{Inside}
+use Rattle.game.specs.Below.{upto, each}
+use Rattle.rules.specs.Job.{place, places, start, arena}
 use Rattle.rules.specs.Bytes.{said}
 use Rattle.rules.specs.Plan.{blank, due, shaped}
 use Rattle.rules.specs.Calls.{Planning, refused, no-room, overrun, planned}
-use Rattle.rules.specs.declared.entry.Entry.{Entry}
+use Rattle.game.specs.declared.entry.Entry.{Entry}
 use Rattle.rules.specs.declared.place.Place.{Place}
-use Rattle.rules.proofs.Tests.{and-iff, or-iff, ltb-iff, leb-iff, eqb-iff}
+use Rattle.game.proofs.Tests.{and-iff, or-iff, ltb-iff, leb-iff, eqb-iff}
 use Rattle.rules.proofs.Numbers.{refusal-range}
 use Rattle.rules.proofs.Arenas.{inside-iff, start-inside}
 use Rattle.rules.proofs.Planned.{planned-right}

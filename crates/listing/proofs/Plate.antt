@@ -3,18 +3,18 @@ use Prim.Native.Nat.{ℕ, _≤_, _<_}
 use mathlib.Core.List.{List, _++_}
 use mathlib.Core.Path.{_≡_, refl, ap, _∙_}
 use lib.ListN.{length}
-use Rattle.rules.specs.Game.{Inside}
+use Rattle.game.specs.Game.{Inside}
 use Rattle.rules.specs.Job.{place, start, arena}
 use Rattle.rules.specs.Bytes.{said}
 use Rattle.rules.specs.Keeps.{Keeps}
 use Rattle.rules.specs.Calls.{Planning}
 use Rattle.rules.specs.Examples.{plate}
-use Rattle.rules.specs.declared.entry.Entry.{Entry}
+use Rattle.game.specs.declared.entry.Entry.{Entry}
 use Rattle.rules.specs.declared.place.Place.{Place}
-use Rattle.rules.proofs.Lists.{every, some, sure}
-use Rattle.rules.proofs.Search.{lowest}
-use Rattle.rules.proofs.Rounds.{win, hope}
-use Rattle.rules.proofs.Right.{by-rounds, right-iff}
+use Rattle.game.proofs.Lists.{every, some, sure}
+use Rattle.game.proofs.Search.{lowest}
+use Rattle.game.proofs.Rounds.{win, hope}
+use Rattle.game.proofs.Right.{by-rounds, right-iff}
 use Rattle.rules.proofs.Kept.{kept}
 use Rattle.rules.proofs.Arenas.{inside-iff, start-inside, arena-lawful}
 use Rattle.rules.proofs.Planned.{planned-exactly, planned-right}

@@ -5,7 +5,7 @@ use mathlib.Core.Path.{_≡_, refl, sym, ap, subst, _∙_}
 use native.Mathlib.Numerals.{add-one}
 use native.Mathlib.Omega.{arith}
 use lib.Dec.{eqb·suc-zero}
-use Rattle.rules.specs.Job.{upto, each}
+use Rattle.game.specs.Below.{upto, each}
 use Rattle.rules.specs.Answers.{refusal-number, advised-figures}
 use Rattle.rules.specs.declared.answer.Advised.{Advised}
 use Rattle.rules.specs.declared.answer.Refusal.{Refusal}

@@ -2,11 +2,12 @@
 use Prim.Native.Nat.{ℕ}
 use mathlib.Core.List.{List, [], _∷_, _++_}
 use mathlib.Core.Path.{_≡_}
-use Rattle.rules.specs.Job.{Job, place, entry-number, start, upto, each}
+use Rattle.game.specs.Below.{upto, each}
+use Rattle.rules.specs.Job.{Job, place, entry-number, start}
 use Rattle.rules.specs.Bytes.{said}
 use Rattle.rules.specs.Plan.{entry}
 use Rattle.rules.specs.Calls.{Planning}
-use Rattle.rules.specs.declared.entry.Entry.{Entry}
+use Rattle.game.specs.declared.entry.Entry.{Entry}
 use Rattle.rules.specs.declared.place.Place.{Place}
 use Rattle.text.specs.Lines.{entry-line, start-line, refusal-line}
 

@@ -2,7 +2,7 @@
 ghost use mathlib.Core.List.{_++_};
 ghost use lib.ListN.{take, replicate};
 ghost use Rattle.io.specs.Counts.{Counts};
-ghost use Rattle.rules.specs.Job.{upto, each};
+ghost use Rattle.game.specs.Below.{upto, each};
 ghost use Rattle.text.specs.Put.{Put};
 ghost use Rattle.listing.specs.Listing.{lines, Prints};
 ghost use Rattle.listing.specs.Told.{valued-line, started-line, advised-line, Printed};

@@ -6,10 +6,10 @@ use mathlib.Core.Path.{_≡_, refl, sym, ap, _∙_, subst}
 use native.Mathlib.Nat.{eq-or-lt-of-le}
 use native.Mathlib.Omega.{arith}
 use denote.Ref.{RefT, now}
-use Rattle.rules.specs.Job.{upto}
+use Rattle.game.specs.Below.{upto}
 use Rattle.rules.specs.Bytes.{refusal, said}
 use Rattle.rules.specs.Examples.{plate}
-use Rattle.rules.proofs.Bits.{below-or}
+use Rattle.sets.proofs.Bits.{below-or}
 use Rattle.rules.proofs.Numbers.{refusal-range}
 use Rattle.reader.specs.Handed.{moves-in, handed, cursor, opened, hands, after}
 use Rattle.reader.specs.declared.Handed.{Handed}

@@ -10,13 +10,14 @@ use native.Mathlib.Nat.{suc-mul, zero-mul}
 use native.Mathlib.Omega.{arith}
 use lib.Dec.{eqb}
 use lib.ListN.{length, length-append, length-map}
-use Rattle.rules.specs.Game.{Inside, Listed, Lawful}
-use Rattle.rules.specs.Job.{Job, upto, each, place, is-from, is-record, entered, start, listed, recorded, places, arena}
+use Rattle.game.specs.Game.{Inside, Listed, Lawful}
+use Rattle.game.specs.Below.{upto, each}
+use Rattle.rules.specs.Job.{Job, place, is-from, is-record, entered, start, listed, recorded, places, arena}
 use Rattle.rules.specs.Bytes.{said}
 use Rattle.rules.specs.Keeps.{Keeps}
 use Rattle.rules.specs.declared.place.Move.{Move}
 use Rattle.rules.specs.declared.place.Place.{Place}
-use Rattle.rules.proofs.Tests.{and-iff, eqb-iff, some-iff, one-suc, last-or-below}
+use Rattle.game.proofs.Tests.{and-iff, eqb-iff, some-iff, one-suc, last-or-below}
 
 -- ---- members of lists
 

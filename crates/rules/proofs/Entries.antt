@@ -11,8 +11,8 @@ use lib.ListN.{length, getD, set, length-set}
 use lib.Seq.{getD-set-same, getD-set-other, ext-getD}
 use Rattle.rules.specs.Bytes.{word}
 use Rattle.rules.specs.Plan.{entry, entry-byte, Wrote, blank, due, shaped}
-use Rattle.rules.specs.declared.entry.Entry.{Entry}
-use Rattle.rules.proofs.Bits.{same-or}
+use Rattle.game.specs.declared.entry.Entry.{Entry}
+use Rattle.sets.proofs.Bits.{same-or}
 
 module _ (p : List ℕ) (i : ℕ) (e : Entry) where
   abbrev at1 : List ℕ

@@ -9,16 +9,16 @@ use borrow.Author.Tests.{eqb-true, eqb-false, ltb-true, ltb-false}
 use lib.Arith.{digits-lt, digits-div, digits-mod}
 use lib.Dec.{eqb, ltb}
 use lib.ListN.{length, getD, drop}
-use Rattle.rules.specs.Game.{Arena, Inside, Right, lost, met, wins, hopes}
+use Rattle.game.specs.Game.{Arena, Inside, Right, lost, met, wins, hopes}
 use Rattle.rules.specs.Job.{place, places, entry-number, arena}
 use Rattle.rules.specs.Bytes.{refusal, said}
 use Rattle.rules.specs.Keeps.{Keeps}
 use Rattle.rules.specs.Plan.{entry, entry-byte, Wrote, room, Plan}
 use Rattle.rules.specs.Calls.{Planning, refused, no-room, planned}
 use Rattle.rules.specs.declared.place.Place.{Place}
-use Rattle.rules.specs.declared.entry.Entry.{Entry}
-use Rattle.rules.proofs.Right.{by-rounds, by-rounds-right}
-use Rattle.rules.proofs.Bounds.{wins-below, hopes-below}
+use Rattle.game.specs.declared.entry.Entry.{Entry}
+use Rattle.game.proofs.Right.{by-rounds, by-rounds-right}
+use Rattle.game.proofs.Bounds.{wins-below, hopes-below}
 use Rattle.rules.proofs.Kept.{kept, places-few}
 use Rattle.rules.proofs.Arenas.{inside-iff, size-of, arena-lawful}
 use Rattle.rules.proofs.Rows.{row-of}

@@ -1,7 +1,10 @@
--- An answer is known by its figures: no two answers have the same.
+-- An answer is known by its figures: no two answers have the same, and an entry has one shape.
 use Prim.Native.Nat.{ℕ, zero, suc}
+use mathlib.Core.Bool.{true≢false}
 use mathlib.Core.Path.{_≡_, refl, sym, ap, _∙_}
-use Rattle.rules.specs.Answers.{refusal-number, value-number, AdvisedFigures, planned-figure, advised-figures}
+use Rattle.rules.specs.Answers.{refusal-number, value-number, AdvisedFigures, planned-figure, advised-figures, ShapeOf}
+use Rattle.game.specs.declared.entry.Entry.{Entry}
+use Rattle.rules.specs.declared.entry.Shape.{Shape}
 use Rattle.rules.specs.declared.answer.Refusal.{Refusal}
 use Rattle.rules.specs.declared.answer.Value.{Value}
 use Rattle.rules.specs.declared.answer.Planned.{Planned}
@@ -90,3 +93,10 @@ planned-known = known-by planned-figure (λ n. by-refusal n Planned.Done Planned
 
 pub advised-known : (r s : Advised) → advised-figures r ≡ advised-figures s → r ≡ s
 advised-known = known-by advised-figures advised-of advised-back
+
+-- of an entry's shape one thing only can be said
+pub shape-unique : (actions n : ℕ) (e : Entry) (x y : Shape) → ShapeOf actions n e x → ShapeOf actions n e y → x ≡ y
+shape-unique actions n e (Shape.Of v) (Shape.Of w) (s, p) (t, q) = ap Shape.Of (value-known v w (sym p ∙ q))
+shape-unique actions n e (Shape.Of v) Shape.Nothing (s, p) t = absurd (true≢false (sym s ∙ t))
+shape-unique actions n e Shape.Nothing (Shape.Of w) s (t, q) = absurd (true≢false (sym t ∙ s))
+shape-unique actions n e Shape.Nothing Shape.Nothing s t = refl

@@ -8,13 +8,14 @@ use native.Mathlib.Omega.{arith}
 use lib.Dec.{leb, ltb}
 use lib.ListN.{length}
 use lib.Pow.{pow-pos}
-use Rattle.rules.specs.Job.{Job, every-below}
+use Rattle.game.specs.Below.{every-below}
+use Rattle.rules.specs.Job.{Job}
 use Rattle.rules.specs.Bytes.{offset, size, end, byte, width, rows, mark, said}
 use Rattle.rules.specs.Bytes.{contents, in-range, counts, labels, within, follows, good, moves, goal}
 use Rattle.rules.specs.Keeps.{Before}
 use Rattle.rules.specs.declared.place.Move.{Move}
 use Rattle.rules.proofs.Rows.{rows-iff}
-use Rattle.rules.proofs.Tests.{and-iff, ltb-iff, leb-iff, eqb-iff, every-iff, all-and, last-or-below}
+use Rattle.game.proofs.Tests.{and-iff, ltb-iff, leb-iff, eqb-iff, every-iff, all-and, last-or-below}
 use Rattle.rules.proofs.Order.{before-iff, before-trans}
 
 pub contents-iff : (b : List ℕ) → (contents b ≡ true)

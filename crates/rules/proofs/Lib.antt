@@ -1,18 +1,5 @@
 -- The laws that belong to no one function.
-pub mod Search
-pub mod Lists
-pub mod Climbs
-pub mod Tests
 pub mod Order
-pub mod Rounds
-pub mod Plays
-pub mod Values
-pub mod Hopes
-pub mod Right
-pub mod Bounds
-pub mod Following
-pub mod Visiting
-pub mod Demands
 pub mod Rows
 pub mod Judged
 pub mod Numbers
@@ -23,11 +10,6 @@ pub mod Figures
 pub mod Plans
 pub mod Unique
 pub mod Planned
-pub mod Bits
-pub mod LowestBit
-pub mod Members
-pub mod Sizes
 pub mod Entries
-pub mod Determined
 pub mod Existing
 pub mod Marked

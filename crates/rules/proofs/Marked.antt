@@ -3,18 +3,18 @@ use mathlib.Core.Bool.{Bool, true, _&&_}
 use mathlib.Core.List.{List·Memᴰ}
 use mathlib.Core.Path.{_≡_, refl, sym}
 use lib.Dec.{eqb}
-use Rattle.rules.specs.Game.{says}
+use Rattle.game.specs.Game.{says}
 use Rattle.rules.specs.Job.{place, start, arena}
 use Rattle.rules.specs.Bytes.{refusal, said}
 use Rattle.rules.specs.Calls.{is-place}
 use Rattle.rules.specs.Examples.{plate, early, Case, marked, CaseHolds}
-use Rattle.rules.specs.declared.entry.Entry.{Entry}
-use Rattle.rules.proofs.Lists.{every, every-at, some, sure}
-use Rattle.rules.proofs.Search.{lowest}
-use Rattle.rules.proofs.Tests.{and-iff, eqb-iff, ltb-iff}
+use Rattle.game.specs.declared.entry.Entry.{Entry}
+use Rattle.game.proofs.Lists.{every, every-at, some, sure}
+use Rattle.game.proofs.Search.{lowest}
+use Rattle.game.proofs.Tests.{and-iff, eqb-iff, ltb-iff}
 use Rattle.rules.proofs.Kept.{kept}
-use Rattle.rules.proofs.Rounds.{win, hope}
-use Rattle.rules.proofs.Right.{by-rounds, right-iff, right-unique}
+use Rattle.game.proofs.Rounds.{win, hope}
+use Rattle.game.proofs.Right.{by-rounds, right-iff, right-unique}
 use Rattle.rules.proofs.Arenas.{inside-iff, arena-lawful}
 use Rattle.rules.proofs.Planned.{planned-exactly, planned-right}
 use Rattle.rules.proofs.Existing.{planned-with-room}

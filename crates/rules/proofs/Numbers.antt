@@ -10,7 +10,7 @@ use lib.Dec.{ltb}
 use lib.ListN.{length}
 use Rattle.rules.specs.Bytes.{said}
 use Rattle.rules.specs.Bytes.{contents, counts, labels, moves, goal, refusal}
-use Rattle.rules.proofs.Tests.{ltb-iff}
+use Rattle.game.proofs.Tests.{ltb-iff}
 
 -- ---- the table: a test that refuses goes before those after it
 

@@ -7,7 +7,7 @@ use native.Mathlib.Omega.{arith}
 use Rattle.rules.specs.Bytes.{before}
 use Rattle.rules.specs.Keeps.{Before}
 use Rattle.rules.specs.declared.place.Move.{Move}
-use Rattle.rules.proofs.Tests.{and-iff, or-iff, ltb-iff, eqb-iff}
+use Rattle.game.proofs.Tests.{and-iff, or-iff, ltb-iff, eqb-iff}
 
 pub before-iff : (m n : Move) → (before m n ≡ true) ↔ Before m n
 before-iff m n =

@@ -6,14 +6,14 @@ use mathlib.Core.Path.{_≡_, refl}
 use native.Mathlib.Omega.{arith}
 use lib.Arith.{digits-lt}
 use lib.ListN.{length, drop, List·getD-append}
-use Rattle.rules.specs.Game.{Inside, Right}
+use Rattle.game.specs.Game.{Inside, Right}
 use Rattle.rules.specs.Job.{places, entry-number, arena}
 use Rattle.rules.specs.Bytes.{said}
 use Rattle.rules.specs.Keeps.{Keeps}
 use Rattle.rules.specs.Plan.{entry, room}
 use Rattle.rules.specs.Calls.{Planning, refused, no-room, overrun, planned}
 use Rattle.rules.specs.declared.place.Place.{Place}
-use Rattle.rules.specs.declared.entry.Entry.{Entry}
+use Rattle.game.specs.declared.entry.Entry.{Entry}
 use Rattle.rules.proofs.Kept.{kept}
 use Rattle.rules.proofs.Arenas.{inside-iff}
 use Rattle.rules.proofs.Unique.{no-overrun}

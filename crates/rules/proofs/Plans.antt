@@ -6,11 +6,11 @@ use native.Mathlib.Nat.{mul-zero}
 use native.Mathlib.Omega.{arith}
 use lib.ListN.{length, getD}
 use lib.Seq.{ext-getD}
-use Rattle.rules.specs.Game.{Lawful}
+use Rattle.game.specs.Game.{Lawful}
 use Rattle.rules.specs.Job.{Job, places, arena}
 use Rattle.rules.specs.Plan.{entry, Plan}
-use Rattle.rules.specs.declared.entry.Entry.{Entry}
-use Rattle.rules.proofs.Right.{right-unique}
+use Rattle.game.specs.declared.entry.Entry.{Entry}
+use Rattle.game.proofs.Right.{right-unique}
 use Rattle.rules.proofs.Rows.{rows-iff}
 
 -- a number of two bytes has the bytes that it has

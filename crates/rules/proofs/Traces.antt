@@ -3,9 +3,9 @@
 use Prim.Native.Nat.{ℕ}
 use mathlib.Core.List.{List, [], _∷_, _++_}
 use mathlib.Core.Path.{_≡_, refl, sym, ap, _∙_}
-use Rattle.rules.specs.Game.{Play, begin, last}
+use Rattle.game.specs.Game.{Play, begin, last}
 use Rattle.rules.specs.Job.{Job, start, arena}
-use Rattle.rules.specs.Visits.{Goes, so-far, further, trace}
+use Rattle.game.specs.Visits.{Goes, so-far, further, trace}
 use Rattle.rules.specs.Trace.{reads, accepts, label-of}
 use Rattle.rules.specs.declared.place.Place.{Place}
 use Rattle.rules.proofs.Arenas.{leads-iff}

@@ -13,7 +13,7 @@ use Rattle.rules.specs.Calls.{Overrun, Planning, refused, no-room, overr
 use Rattle.rules.specs.Answers.{MovedFigures, planned-figure, advised-figures}
 use Rattle.rules.specs.declared.answer.Planned.{Planned}
 use Rattle.rules.specs.declared.answer.Advised.{Advised}
-use Rattle.rules.proofs.Bounds.{wins-below, hopes-below}
+use Rattle.game.proofs.Bounds.{wins-below, hopes-below}
 use Rattle.rules.proofs.Kept.{kept}
 use Rattle.rules.proofs.Arenas.{size-of, arena-lawful}
 use Rattle.rules.proofs.Plans.{plan-unique}

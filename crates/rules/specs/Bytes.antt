@@ -5,7 +5,8 @@ use mathlib.Core.Bool.{Bool, true, cond, not, _&&_, _||_}
 use mathlib.Core.List.{List}
 use lib.Dec.{leb, ltb, eqb}
 use lib.ListN.{length, getD}
-use Rattle.rules.specs.Job.{Job, every-below}
+use Rattle.game.specs.Below.{every-below}
+use Rattle.rules.specs.Job.{Job}
 use Rattle.rules.specs.declared.place.Move.{Move}
 
 -- a number of two bytes, low byte first

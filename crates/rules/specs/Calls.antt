@@ -6,13 +6,13 @@ use mathlib.Core.Logic.{_⊎_}
 use mathlib.Core.Path.{_≡_}
 use lib.Dec.{ltb, eqb}
 use lib.ListN.{length, drop, replicate}
-use Rattle.rules.specs.Game.{Inside, WinsIn, HopesIn, Pending}
+use Rattle.game.specs.Game.{Inside, WinsIn, HopesIn, Pending}
 use Rattle.rules.specs.Job.{Job, place, places, entry-number, entered, start, recorded, arena}
 use Rattle.rules.specs.Bytes.{refusal, said}
 use Rattle.rules.specs.Plan.{entry, room, Plan, shaped}
 use Rattle.rules.specs.Answers.{MovedFigures, AdvisedFigures}
 use Rattle.rules.specs.declared.place.Place.{Place}
-use Rattle.rules.specs.declared.entry.Entry.{Entry}
+use Rattle.game.specs.declared.entry.Entry.{Entry}
 
 -- ---- planning
 

@@ -3,14 +3,14 @@ use Prim.Native.Nat.{ℕ, _≤_}
 use mathlib.Core.List.{List, [], _∷_}
 use mathlib.Core.Path.{_≡_}
 use lib.ListN.{length}
-use Rattle.rules.specs.Game.{says, Inside}
+use Rattle.game.specs.Game.{says, Inside}
 use Rattle.rules.specs.Job.{place, entry-number, arena}
 use Rattle.rules.specs.Bytes.{said}
 use Rattle.rules.specs.Keeps.{Keeps}
 use Rattle.rules.specs.Plan.{entry, room}
 use Rattle.rules.specs.Calls.{Planning}
 use Rattle.rules.specs.declared.place.Place.{Place}
-use Rattle.rules.specs.declared.entry.Entry.{Entry}
+use Rattle.game.specs.declared.entry.Entry.{Entry}
 
 abbrev pub plate : List ℕ
 plate =

@@ -1,29 +1,12 @@
 -- A job, its places, and the game that is played on them: document 01, "Places, plays and values".
 use Prim.Native.Nat.{ℕ, zero, suc, _+_, _*_}
-use mathlib.Core.Bool.{Bool, true, false, cond, _&&_, _||_}
+use mathlib.Core.Bool.{Bool, cond, _&&_}
 use mathlib.Core.List.{List, [], _∷_, _++_, map}
 use lib.Dec.{eqb}
-use Rattle.rules.specs.Game.{Arena}
+use Rattle.game.specs.Below.{upto, each, some-below}
+use Rattle.game.specs.Game.{Arena}
 use Rattle.rules.specs.declared.place.Place.{Place}
 use Rattle.rules.specs.declared.place.Move.{Move}
-
--- the numbers below n in order, and the lists of several, one after the other
-abbrev pub upto : ℕ → List ℕ
-upto zero = []
-upto (suc n) = upto n ++ (n ∷ [])
-
-abbrev pub each : {A : Type 0} → List ℕ → (ℕ → List A) → List A
-each [] f = []
-each (i ∷ is) f = f i ++ each is f
-
--- every number below n passes the test; some number below n does
-abbrev pub every-below : ℕ → (ℕ → Bool) → Bool
-every-below zero f = true
-every-below (suc n) f = every-below n f && f n
-
-abbrev pub some-below : ℕ → (ℕ → Bool) → Bool
-some-below zero f = false
-some-below (suc n) f = some-below n f || f n
 
 pub record Job : Type 0 where
   pub states : ℕ

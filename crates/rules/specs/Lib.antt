@@ -1,14 +1,9 @@
 -- The meaning: what the promises of every crate are said with.
-pub mod Sets
-pub mod Lowest
-pub mod Game
 pub mod Job
 pub mod Bytes
 pub mod Keeps
 pub mod Answers
 pub mod Plan
 pub mod Calls
-pub mod Demands
-pub mod Visits
 pub mod Trace
 pub mod Examples

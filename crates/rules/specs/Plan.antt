@@ -5,10 +5,10 @@ use mathlib.Core.List.{List}
 use mathlib.Core.Path.{_≡_}
 use lib.Dec.{leb, ltb, eqb}
 use lib.ListN.{length, getD}
-use Rattle.rules.specs.Game.{Right}
+use Rattle.game.specs.Game.{Right}
 use Rattle.rules.specs.Job.{Job, place, places, entry-number, arena}
 use Rattle.rules.specs.Bytes.{word}
-use Rattle.rules.specs.declared.entry.Entry.{Entry}
+use Rattle.game.specs.declared.entry.Entry.{Entry}
 
 -- the entry i of a plan
 abbrev pub entry : List ℕ → ℕ → Entry

@@ -5,13 +5,7 @@ ghost use lib.ListN.{length};
 ghost use Rattle.rules.specs.Plan.{entry, blank, due, Wrote};
 ghost use Rattle.rules.specs.Answers.{ShapeOf};
 use crate::answer::Value;
-
-// What a plan says of a place.
-pub struct Entry {
-    pub value: u8,
-    pub action: u8,
-    pub number: u16,
-}
+use game::entry::Entry;
 
 // The value that an entry of one of the four shapes has.
 pub enum Shape {

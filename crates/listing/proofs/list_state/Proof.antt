@@ -2,7 +2,7 @@
 use Prim.Native.Nat.{_≤_, _-_}
 use native.Mathlib.Omega.{arith}
 use borrow.Author.Needs.{needs}
-use Rattle.rules.specs.Job.{upto, each}
+use Rattle.game.specs.Below.{upto, each}
 use Rattle.text.specs.Put.{Put}
 use Rattle.text.proofs.Putting.{put-none, put-length}
 use Rattle.listing.specs.Told.{advised-line}

@@ -7,8 +7,8 @@ use mathlib.Core.Path.{_≡_, sym}
 use Prim.Native.Nat.{ℕ}
 use native.Mathlib.Omega.{arith}
 use Rattle.rules.specs.Bytes.{contents}
-use Rattle.rules.proofs.Search.{if-not-true}
-use Rattle.rules.proofs.Tests.{same-test}
+use Rattle.game.proofs.Search.{if-not-true}
+use Rattle.game.proofs.Tests.{same-test}
 use Rattle.rules.proofs.Judged.{contents-iff}
 use Rattle.job.proofs.accept.contents_fit.Statement.{statement}
 use Rattle.job.proofs.accept.contents_fit.Tie as tie

@@ -3,8 +3,8 @@ use borrow.Author.Tests.{ltb-true, lt-ltb}
 use mathlib.Core.Bool.{false}
 use mathlib.Core.Path.{_≡_, sym}
 use native.Mathlib.Omega.{arith}
-use Rattle.rules.proofs.Search.{if-not-true}
-use Rattle.rules.proofs.Tests.{same-test}
+use Rattle.game.proofs.Search.{if-not-true}
+use Rattle.game.proofs.Tests.{same-test}
 use Rattle.rules.proofs.Judged.{InRange}
 use Rattle.job.specs.Layout.{in-ranges}
 use Rattle.job.specs.declared.layout.Layout.{Layout}

@@ -6,7 +6,7 @@ use mathlib.Core.Path.{_≡_, sym, _∙_}
 use Prim.Native.Nat.{_+_, _*_}
 use native.Mathlib.Omega.{arith}
 use lib.Dec.{ltb, eqb}
-use Rattle.rules.specs.Job.{every-below}
+use Rattle.game.specs.Below.{every-below}
 use Rattle.rules.specs.Bytes.{size, byte, rows, said}
 use Rattle.job.proofs.Laying.{Bodies, bodies, ranges-iff, rows-few, marks-are}
 use Rattle.job.proofs.accept.goal_fits.Statement.{statement}

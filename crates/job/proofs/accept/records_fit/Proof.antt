@@ -5,9 +5,9 @@ use mathlib.Core.Bool.{true}
 use mathlib.Core.Path.{_≡_, refl, sym, _∙_}
 use Prim.Native.Nat.{_-_, _≤_}
 use native.Mathlib.Omega.{arith}
-use Rattle.rules.specs.Job.{every-below}
+use Rattle.game.specs.Below.{every-below}
 use Rattle.rules.specs.Bytes.{said, good}
-use Rattle.rules.proofs.Tests.{every-more, every-stops}
+use Rattle.game.proofs.Tests.{every-more, every-stops}
 use Rattle.job.proofs.Laying.{Bodies, bodies, previous, good-is, previous-is}
 use Rattle.job.proofs.accept.records_fit.Statement.{statement}
 use Rattle.job.proofs.accept.records_fit.Tie as tie

@@ -4,10 +4,11 @@ use mathlib.Core.Bool.{Bool, false}
 use mathlib.Core.Path.{_≡_, sym, _∙_, ap}
 use native.Mathlib.Omega.{arith}
 use borrow.Author.Needs.{needs}
-use Rattle.rules.specs.Job.{Job, is-record, some-below}
+use Rattle.game.specs.Below.{some-below}
+use Rattle.rules.specs.Job.{Job, is-record}
 use Rattle.rules.specs.Bytes.{said}
 use Rattle.rules.specs.declared.place.Move.{Move}
-use Rattle.rules.proofs.Tests.{some-more, some-stops}
+use Rattle.game.proofs.Tests.{some-more, some-stops}
 use Rattle.job.proofs.Asking.{records-said}
 use Rattle.job.proofs.ask.find.Statement.{statement}
 use Rattle.job.proofs.ask.find.Tie as tie

@@ -6,8 +6,8 @@ use mathlib.Core.Path.{_≡_, refl, sym}
 use Prim.Native.Nat.{_+_, _-_, _≤_}
 use native.Mathlib.Omega.{arith}
 use lib.ListN.{getD}
-use Rattle.rules.specs.Job.{every-below}
-use Rattle.rules.proofs.Tests.{every-more, every-stops}
+use Rattle.game.specs.Below.{every-below}
+use Rattle.game.proofs.Tests.{every-more, every-stops}
 use Rattle.job.proofs.Laying.{below}
 use Rattle.job.proofs.body.bytes_below.Statement.{statement}
 use Rattle.job.proofs.body.bytes_below.Tie as tie

@@ -1,7 +1,7 @@
 -- `body::labels_of` meets its contract.
 use borrow.Author.Needs.{needs}
 use native.Mathlib.Omega.{arith}
-use Rattle.rules.proofs.Bits.{one-shl}
+use Rattle.sets.proofs.Bits.{one-shl}
 use Rattle.job.proofs.body.labels_of.Statement.{statement}
 use Rattle.job.proofs.body.labels_of.Tie as tie
 

@@ -5,7 +5,7 @@ use native.Mathlib.Omega.{arith}
 use borrow.Author.Needs.{needs}
 use lib.ListN.{length}
 use Rattle.rules.specs.Bytes.{said}
-use Rattle.rules.specs.Sets.{member, count}
+use Rattle.sets.specs.Sets.{member, count}
 use Rattle.job.proofs.Asking.{few-places, places-said}
 use Rattle.labelling.proofs.Settling.{Going, going-none, going-more, going-stop, going-over}
 use Rattle.labelling.proofs.rounds.all_rounds.Statement.{statement}

@@ -6,7 +6,7 @@ use native.Mathlib.Omega.{arith}
 use borrow.Author.Needs.{needs}
 use lib.Arith.{digits-lt}
 use Rattle.rules.specs.Plan.{entry}
-use Rattle.rules.specs.declared.entry.Entry.{Entry}
+use Rattle.game.specs.declared.entry.Entry.{Entry}
 use Rattle.job.proofs.Asking.{few-states, few-goals, few-places}
 use Rattle.cabinet.proofs.Answering.{no-state, no-goal, is-one, advice-short, advice-no-place, advice-shapeless, advice-says}
 use Rattle.cabinet.proofs.place.Place.advice_read.Statement.{statement}

@@ -1,0 +1,3 @@
+-- What the promises of sets are said with.
+pub mod Sets
+pub mod Lowest
