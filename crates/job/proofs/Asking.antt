@@ -13,6 +13,7 @@ use Rattle.rules.proofs.Kept as kept
 use Rattle.rules.proofs.Arenas as arenas
 use Rattle.job.specs.Layout.{Fit}
 use Rattle.job.specs.declared.layout.Layout.{Layout}
+use Rattle.sets.specs.Sets.{set-room}
 
 module _ {b : List ℕ} {l : Layout} (f : Fit b l) where
   -- ---- what the layout says is what the bytes say
@@ -70,7 +71,7 @@ module _ {b : List ℕ} {l : Layout} (f : Fit b l) where
   pub few-records : l .records ≤ 4096
   few-records = rw records-said (f .keeps .few-records)
 
-  pub few-places : l .states * l .goals ≤ 4096
+  pub few-places : l .states * l .goals ≤ set-room
   few-places = mul-le-mul few-states few-goals
 
   pub first-state : l .first < l .states
@@ -90,7 +91,7 @@ module _ {b : List ℕ} {l : Layout} (f : Fit b l) where
   pub entry-below : {q t : ℕ} → q < l .goals → t < l .states → t * l .goals + entered (said b) q t .goal < l .states * l .goals
   entry-below h g = digits-lt g (entered-below h g)
 
-  pub entry-few : {q t : ℕ} → q < l .goals → t < l .states → t * l .goals + entered (said b) q t .goal < 4096
+  pub entry-few : {q t : ℕ} → q < l .goals → t < l .states → t * l .goals + entered (said b) q t .goal < set-room
   entry-few h g = omega (arith, entry-below h g, few-places)
 
   -- ---- the records

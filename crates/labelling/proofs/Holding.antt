@@ -10,7 +10,7 @@ use borrow.Author.Tests.{lt-ltb, le-ltb, eq-eqb, ne-eqb}
 use lib.Arith.{digits-lt, digits-div, digits-mod}
 use lib.Dec.{ltb}
 use lib.ListN.{length, getD}
-use Rattle.sets.specs.Sets.{member, count}
+use Rattle.sets.specs.Sets.{set-words, set-room, member, count}
 use Rattle.game.specs.Game.{Inside, Lawful, says}
 use Rattle.game.specs.Below.{some-below}
 use Rattle.rules.specs.Job.{Job, place, places, entry-number, arena}
@@ -103,7 +103,7 @@ entry-bytes plan small (suc (suc (suc zero))) i y h e =
     rw (e, at) (omega (arith, small (4 * i + 2)))
 entry-bytes plan small (suc (suc (suc (suc d)))) i y h e = absurd (omega arith)
 
-pub holds-itself : (j : Job) {ws plan : List ℕ} → length ws ≡ 64 → ((y : ℕ) → getD plan y 0 < 256) → NonePast j ws
+pub holds-itself : (j : Job) {ws plan : List ℕ} → length ws ≡ set-words → ((y : ℕ) → getD plan y 0 < 256) → NonePast j ws
     → Holds j (in-set (j .goals) ws) (λ p. entry plan (entry-number (j .goals) p)) plan ws plan
 holds-itself j {ws} {plan} words small none =
     record {
@@ -228,29 +228,29 @@ module _ {j : Job} {f g : Place → Bool} {e e′ : Place → Entry} {before bef
       let (l, r) = member-held h x m in
       holds-member h′ x l ∙ wider (place-at (j .goals) x) r
 
-  pub held-same : places j ≤ 4096 → count (member ws′) 4096 ≡ count (member ws) 4096
+  pub held-same : places j ≤ set-room → count (member ws′) set-room ≡ count (member ws) set-room
       → (p : Place) → Inside (arena j) p → g p ≡ true → f p ≡ true
   held-same few c p m r =
       let i = entry-number (j .goals) p in
       let l : i < places j = number-below j p m in
-      let same : member ws i ≡ member ws′ i = count-same (member ws) (member ws′) still 4096 (omega arith) i (omega arith) in
+      let same : member ws i ≡ member ws′ i = count-same (member ws) (member ws′) still set-room (omega arith) i (omega arith) in
       sym (holds-in-set h p m) ∙ same ∙ holds-in-set h′ p m ∙ r
 
-  pub held-more : 0 < j .goals → (count (member ws′) 4096 ≡ count (member ws) 4096 → ⊥)
+  pub held-more : 0 < j .goals → (count (member ws′) set-room ≡ count (member ws) set-room → ⊥)
       → (p : Place) × Inside (arena j) p × (f p ≡ false) × (g p ≡ true)
   held-more some c =
-      let fewer = count-sub (member ws) (member ws′) still 4096 in
-      let (x, b, old, new) = count-more (member ws) (member ws′) still 4096 (omega arith) in
+      let fewer = count-sub (member ws) (member ws′) still set-room in
+      let (x, b, old, new) = count-more (member ws) (member ws′) still set-room (omega arith) in
       let (l, r) = member-held h′ x new in
       (place-at (j .goals) x, place-inside j some x l, sym (holds-member h x l) ∙ old, r)
 
 module _ {j : Job} (v : Phase) (f : Place → Bool) (k : ℕ) {e e′ : Place → Entry} {before before′ ws plan ws′ plan′ : List ℕ}
     (h : Holds j (reached v (arena j) f k) e before ws plan) (h′ : Holds j (reached v (arena j) f (suc k)) e′ before′ ws′ plan′) where
   -- a round after which the set has the size that it had added nothing; otherwise it added a place
-  pub same-size : places j ≤ 4096 → count (member ws′) 4096 ≡ count (member ws) 4096 → (p : Place) → Inside (arena j) p
+  pub same-size : places j ≤ set-room → count (member ws′) set-room ≡ count (member ws) set-room → (p : Place) → Inside (arena j) p
       → reached v (arena j) f (suc k) p ≡ true → reached v (arena j) f k p ≡ true
   same-size = held-same (reached-up v (arena j) f k) h h′
 
-  pub grew : 0 < j .goals → (count (member ws′) 4096 ≡ count (member ws) 4096 → ⊥)
+  pub grew : 0 < j .goals → (count (member ws′) set-room ≡ count (member ws) set-room → ⊥)
       → (p : Place) × Inside (arena j) p × (reached v (arena j) f k p ≡ false) × (reached v (arena j) f (suc k) p ≡ true)
   grew = held-more (reached-up v (arena j) f k) h h′

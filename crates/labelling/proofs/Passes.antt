@@ -8,7 +8,7 @@ use native.Mathlib.Omega.{arith}
 use borrow.Author.Tests.{lt-ltb, le-ltb, le-leb, lt-leb, eq-eqb, ne-eqb}
 use lib.Dec.{ltb, eqb}
 use lib.ListN.{getD}
-use Rattle.sets.specs.Sets.{member, Put}
+use Rattle.sets.specs.Sets.{set-room, member, Put}
 use Rattle.rules.specs.Plan.{entry-byte, Wrote}
 use Rattle.game.specs.declared.entry.Entry.{Entry}
 use Rattle.sets.proofs.Bits.{below-or, same-or}
@@ -122,13 +122,13 @@ module _ {gains writes : ℕ → Bool} {says : ℕ → Entry} where
           bytes = λ y. rw (at-one writes false i w (y / 4));
         }
 
-    pub pass-put : {ws1 plan1 : List ℕ} → gains i ≡ true → writes i ≡ true → i < 4096 → Put ws i ws1 → Wrote i (says i) plan plan1
+    pub pass-put : {ws1 plan1 : List ℕ} → gains i ≡ true → writes i ≡ true → i < set-room → Put ws i ws1 → Wrote i (says i) plan plan1
         → Pass gains writes says i (i + 1) ws plan ws1 plan1
     pass-put g w h p q =
         record {
           as-many = p .as-long;
           as-long = q .as-long;
-          joins = λ x. p .members x ∙ rw (lt-ltb i 4096 h, at-one gains true i g x);
+          joins = λ x. p .members x ∙ rw (lt-ltb i set-room h, at-one gains true i g x);
           bytes = one-wrote writes says w q;
         }
 

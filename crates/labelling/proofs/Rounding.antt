@@ -9,7 +9,7 @@ use borrow.Author.Tests.{lt-ltb}
 use lib.Arith.{digits-lt, digits-div, digits-mod}
 use lib.Dec.{ltb}
 use lib.ListN.{length}
-use Rattle.sets.specs.Sets.{member, Put}
+use Rattle.sets.specs.Sets.{set-room, member, Put}
 use Rattle.game.specs.Game.{says}
 use Rattle.rules.specs.Job.{place, arena}
 use Rattle.rules.specs.Bytes.{said}
@@ -57,15 +57,15 @@ module _ {b : List ℕ} {l : Layout} {s start end q : ℕ} {ws plan : List ℕ} 
   abbrev here : ℕ
   here = s * l .goals + q
 
-  pub here-few : here < 4096
+  pub here-few : here < set-room
   here-few = omega (arith, digits-lt (r .state) g, few-places (r .fit))
 
   pub here-room : {i : ℕ} → i ≡ here → 4 * i + 4 ≤ length plan
   here-room n = omega (arith, n, digits-lt (r .state) g, r .room)
 
   -- what was answered of it, by its number i, is whether the set has it
-  pub here-known : {i : ℕ} → i ≡ here → (old : List ℕ) {a t : Bool} → a ≡ (ltb i 4096 && member old i) → a ≡ t → member old here ≡ t
-  here-known n old e d = sym (rw (n, lt-ltb here 4096 here-few) at e) ∙ d
+  pub here-known : {i : ℕ} → i ≡ here → (old : List ℕ) {a t : Bool} → a ≡ (ltb i set-room && member old i) → a ≡ t → member old here ≡ t
+  here-known n old e d = sym (rw (n, lt-ltb here set-room here-few) at e) ∙ d
 
   module _ (v : Phase) (n : ℕ) (old : List ℕ) where
     -- it is in the old set

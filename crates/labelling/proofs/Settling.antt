@@ -6,7 +6,7 @@ use mathlib.Core.Logic.{inl, inr, ⊎-elim}
 use mathlib.Core.Path.{_≡_, refl, sym, _∙_, subst}
 use native.Mathlib.Numerals.{add-one}
 use native.Mathlib.Omega.{arith}
-use Rattle.sets.specs.Sets.{member, count}
+use Rattle.sets.specs.Sets.{set-room, member, count}
 use Rattle.game.specs.Game.{Arena, Inside, Lawful, Pending, WinsIn, HopesIn}
 use Rattle.game.specs.Below.{some-below}
 use Rattle.rules.specs.Job.{Job, place, places, arena}
@@ -69,7 +69,7 @@ module _ {b : List ℕ} {l : Layout} (t : Fit b l) {v : Phase} {ws₀ plan₀ ws
       → Holds (said b) (reached v (arena (said b)) f (suc k)) (written v (arena (said b)) f e (suc k)) before ws′ plan′
   next f e before h = holds-round t v f e k (g .holds f e before h) (rw (add-one k) at r)
 
-  pub going-more : (count (member ws′) 4096 ≡ count (member ws) 4096 → ⊥) → Going (said b) v ws₀ plan₀ (k + 1) ws′ plan′
+  pub going-more : (count (member ws′) set-room ≡ count (member ws) set-room → ⊥) → Going (said b) v ws₀ plan₀ (k + 1) ws′ plan′
   going-more c =
       rw (add-one k)
       (record {
@@ -85,7 +85,7 @@ module _ {b : List ℕ} {l : Layout} (t : Fit b l) {v : Phase} {ws₀ plan₀ ws
           (λ (d : i < k). g .added f e before h i d)
           (last-or-below m)
 
-  pub going-stop : (set : PlaceSet) → set .words ≡ ws′ → count (member ws′) 4096 ≡ count (member ws) 4096
+  pub going-stop : (set : PlaceSet) → set .words ≡ ws′ → count (member ws′) set-room ≡ count (member ws) set-room
       → (f : Place → Bool) (e : Place → Entry) (before : List ℕ) → Holds (said b) f e before ws₀ plan₀
       → Settled (said b) v f e before (record { set = set; over = false }) plan′
   going-stop set q c f e before h =

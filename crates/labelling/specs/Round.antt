@@ -4,7 +4,7 @@ use mathlib.Core.Bool.{Bool, true, false, cond, not, _&&_}
 use mathlib.Core.List.{List}
 use mathlib.Core.Path.{_≡_}
 use lib.ListN.{length}
-use Rattle.sets.specs.Sets.{member}
+use Rattle.sets.specs.Sets.{set-words, member}
 use Rattle.game.specs.Game.{says}
 use Rattle.game.specs.Below.{some-below}
 use Rattle.rules.specs.Job.{arena}
@@ -22,7 +22,7 @@ pub record Ready (b : List ℕ) (l : Layout) (s start end : ℕ) (ws plan : List
   pub fit : Fit b l
   pub state : s < l .states
   pub range : Range (said b) s start end
-  pub words : length ws ≡ 64
+  pub words : length ws ≡ set-words
   pub room : 4 * (l .states * l .goals) ≤ length plan
 
 module _ (b : List ℕ) (l : Layout) (v : Phase) (n : ℕ) (old : List ℕ) where
@@ -58,4 +58,4 @@ module _ (b : List ℕ) (l : Layout) where
   -- round 0 over every place: the set is the places added, and the entries are written
   abbrev pub BegunAll : (plan ws′ plan′ : List ℕ) → Type 0
   BegunAll plan ws′ plan′ =
-      (ws : List ℕ) × (length ws ≡ 64) × ((x : ℕ) → member ws x ≡ false) × Begun 0 (l .states * l .goals) ws plan ws′ plan′
+      (ws : List ℕ) × (length ws ≡ set-words) × ((x : ℕ) → member ws x ≡ false) × Begun 0 (l .states * l .goals) ws plan ws′ plan′

@@ -5,7 +5,7 @@ use mathlib.Core.List.{List}
 use mathlib.Core.Path.{_≡_}
 use lib.Dec.{ltb}
 use lib.ListN.{length, getD}
-use Rattle.sets.specs.Sets.{member}
+use Rattle.sets.specs.Sets.{set-words, member}
 use Rattle.game.specs.Game.{Arena, Inside, Right, says}
 use Rattle.game.specs.Below.{some-below}
 use Rattle.rules.specs.Job.{Job, place, places, entry-number, arena}
@@ -36,7 +36,7 @@ module _ (v : Phase) (G : Arena) where
 
 -- the words hold f, and the plan e, of the places of j; beyond them the plan is as `before`
 pub record Holds (j : Job) (f : Place → Bool) (e : Place → Entry) (before ws plan : List ℕ) : Type 0 where
-  pub words : length ws ≡ 64
+  pub words : length ws ≡ set-words
   pub as-long : length plan ≡ length before
   pub members : (x : ℕ) → member ws x ≡ (ltb x (places j) && f (place-at (j .goals) x))
   pub bytes : (y : ℕ) → getD plan y 0

@@ -5,12 +5,14 @@ ghost use lib.ListN.{length};
 ghost use Rattle.job.specs.Layout.{Fit};
 ghost use Rattle.labelling.specs.Scan.{phase-value};
 ghost use Rattle.labelling.specs.Round.{Ready, Passed, Begun, BegunAll};
+ghost use Rattle.sets.specs.Sets.{set-words};
 use crate::scan::Phase;
 use game::entry::Entry;
 use job::layout::Layout;
 use rules::place::Place;
 use sets::actions::LowestAction;
 use sets::places::PlaceSet;
+use sets::places::WORDS;
 
 // The value that a phase's places have, in a plan.
 fn value_of(phase: Phase) -> u8
@@ -24,11 +26,11 @@ fn value_of(phase: Phase) -> u8
 
 // One place in a round: it joins the set if it is not in the old one and has an action of the phase's kind.
 fn label_place(
-    new: &mut [u64; 64],
+    new: &mut [u64; WORDS],
     plan: &mut [u8],
     job: &[u8],
     l: Layout,
-    old: &[u64; 64],
+    old: &[u64; WORDS],
     s: usize,
     q: usize,
     start: usize,
@@ -70,11 +72,11 @@ fn label_place(
 
 // The places of one state in a round.
 fn label_state(
-    new: &mut [u64; 64],
+    new: &mut [u64; WORDS],
     plan: &mut [u8],
     job: &[u8],
     l: Layout,
-    old: &[u64; 64],
+    old: &[u64; WORDS],
     s: usize,
     start: usize,
     end: usize,
@@ -122,10 +124,10 @@ pub fn one_round(
 }
 
 // Round 0 at the place whose entry is i: an accepted one joins the set, and every entry is written.
-fn begin_place(new: &mut [u64; 64], plan: &mut [u8], job: &[u8], l: Layout, i: usize)
+fn begin_place(new: &mut [u64; WORDS], plan: &mut [u8], job: &[u8], l: Layout, i: usize)
     requires { ⌜ Fit (now job) l ⌝ }
     requires { ⌜ i < l .states * l .goals ⌝ }
-    requires { ⌜ length (now new) ≡ 64 ⌝ }
+    requires { ⌜ length (now new) ≡ set-words ⌝ }
     requires { ⌜ 4 * (l .states * l .goals) ≤ length (now plan) ⌝ }
     ensures { λ _. ⌜ Begun (now (job .entry)) l i (i + 1) (now (new .entry)) (now (plan .entry)) (now (new .exit)) (now (plan .exit)) ⌝ }
 {

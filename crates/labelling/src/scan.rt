@@ -8,6 +8,7 @@ ghost use Rattle.labelling.specs.Scan.{in-set, From, Range, Tallied, Sca
 use job::layout::Layout;
 use sets::actions::ActionSet;
 use sets::actions::LowestAction;
+use sets::places::WORDS;
 
 // What the rounds of a phase label.
 pub enum Phase {
@@ -41,7 +42,7 @@ pub fn range_end(job: &[u8], l: Layout, s: usize, start: usize) -> usize
 }
 
 // Whether the place that is entered with state t from goal state q is in the set.
-fn is_inside(job: &[u8], l: Layout, words: &[u64; 64], q: usize, t: usize) -> bool
+fn is_inside(job: &[u8], l: Layout, words: &[u64; WORDS], q: usize, t: usize) -> bool
     requires { ⌜ Fit (now job) l ⌝ }
     requires { ⌜ q < l .goals ⌝ }
     requires { ⌜ t < l .states ⌝ }
@@ -78,7 +79,7 @@ fn add_record(x: Tally, action: u8, inside: bool) -> Tally
 pub fn scan(
     job: &[u8],
     l: Layout,
-    words: &[u64; 64],
+    words: &[u64; WORDS],
     s: usize,
     q: usize,
     start: usize,

@@ -15,6 +15,7 @@ use Rattle.rules.specs.Keeps.{Keeps}
 use Rattle.rules.proofs.Order.{before-state, before-differ}
 use Rattle.rules.proofs.Judged.{contents-iff, counts-iff, labels-iff, moves-iff, goal-iff}
 use Rattle.rules.proofs.Numbers.{refusal-0}
+use Rattle.sets.specs.Sets.{set-room}
 
 pub kept : (b : List ℕ) → (refusal b ≡ 0) ↔ Keeps b
 kept b = (into, back)
@@ -95,7 +96,7 @@ module _ {b : List ℕ} (k : Keeps b) where
   pub next-inside : {q l : ℕ} → q < said b .goals → l < width b → offset b 3 + (q * width b + l) < length b
   next-inside h g = omega (arith, digits-lt h g, goal-end)
 
-  pub places-few : places (said b) ≤ 4096
+  pub places-few : places (said b) ≤ set-room
   places-few = mul-le-mul (k .few-states) (k .few-goals)
 
   pub places-some : 1 ≤ places (said b)

@@ -10,7 +10,7 @@ use lib.Dec.{eqb}
 use lib.ListN.{length, getD}
 use lib.Pow.{pow-mono}
 use lib.Seq.{ext-getD}
-use Rattle.sets.specs.Sets.{bit, member, Put}
+use Rattle.sets.specs.Sets.{set-words, bit, member, Put}
 use Rattle.sets.specs.Lowest.{IsLowest, LowestOf}
 use Rattle.sets.specs.declared.actions.ActionSet.{ActionSet}
 use Rattle.sets.specs.declared.actions.LowestAction.{LowestAction}
@@ -55,9 +55,9 @@ bits-known n m e =
 pub actions-unique : (g : ℕ → Bool) (x y : ActionSet) → ((k : ℕ) → bit (x .bits) k ≡ g k) → ((k : ℕ) → bit (y .bits) k ≡ g k) → x ≡ y
 actions-unique g x y e d = ap (λ (n : ℕ). record { bits = n }) (bits-known (x .bits) (y .bits) (λ k. e k ∙ sym (d k)))
 
--- what the type of a set's words says: 64 of them, of 64 bits each
+-- what the type of a set's words says: so many of them, of 64 bits each
 pub record Words (ws : List ℕ) : Type 0 where
-  pub many : length ws ≡ 64
+  pub many : length ws ≡ set-words
   pub in-bits : (k : ℕ) → getD ws k 0 < 2 ^ 64
 
 pub words-known : {ws vs : List ℕ} → Words ws → Words vs → ((i : ℕ) → member ws i ≡ member vs i) → ws ≡ vs

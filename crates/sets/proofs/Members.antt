@@ -12,7 +12,7 @@ use lib.Dec.{eqb}
 use lib.ListN.{getD, set, length, replicate, length-set, List·getD-eq-default}
 use lib.Pow.{pow-pos}
 use lib.Seq.{getD-set-same, getD-set-other}
-use Rattle.sets.specs.Sets.{member, Put}
+use Rattle.sets.specs.Sets.{set-words, set-room, member, Put}
 use Rattle.sets.proofs.Bits.{same-or, bit-or, bit-pow, bit-none, one-shl}
 
 -- the words with the place i
@@ -54,7 +54,7 @@ member-zeros n i = rw (zeros n (i / 64)) (bit-none (i % 64))
 
 -- ---- what putting i into a set leaves: the machine's store where there is room, and the set itself where there is none
 
-pub put-more : (ws : List ℕ) (i : ℕ) → length ws ≡ 64 → i < 4096
+pub put-more : (ws : List ℕ) (i : ℕ) → length ws ≡ set-words → i < set-room
     → Put ws i (set ws (i / 64) (bitOr (1 * 2 ^ (i % 64) % 2 ^ 64) (getD ws (i / 64) 0)))
 put-more ws i n h =
     record {
@@ -64,7 +64,7 @@ put-more ws i n h =
           (λ (e : k ≡ i / 64). rw (e, getD-set-same ws (i / 64) word 0 (omega arith)) (fits (small (i / 64))))
           (λ (e : k ≡ i / 64 → ⊥). rw (getD-set-other ws (i / 64) k word 0 e) (small k))
           (same-or k (i / 64));
-      members = λ j. rw (one-shl (i % 64) 64 (omega arith), lt-ltb i 4096 h) (member-with ws i j (omega arith));
+      members = λ j. rw (one-shl (i % 64) 64 (omega arith), lt-ltb i set-room h) (member-with ws i j (omega arith));
     }
   where
     word : ℕ
@@ -73,5 +73,5 @@ put-more ws i n h =
     fits : getD ws (i / 64) 0 < 2 ^ 64 → word < 2 ^ 64
     fits = or-lt 64 (1 * 2 ^ (i % 64) % 2 ^ 64) (getD ws (i / 64) 0) (mod-lt (1 * 2 ^ (i % 64)) (pow-pos 64))
 
-pub put-same : (ws : List ℕ) (i : ℕ) → 4096 ≤ i → Put ws i ws
-put-same ws i h = record { as-long = refl; in-bits = λ small. small; members = λ j. rw (le-ltb i 4096 h) }
+pub put-same : (ws : List ℕ) (i : ℕ) → set-room ≤ i → Put ws i ws
+put-same ws i h = record { as-long = refl; in-bits = λ small. small; members = λ j. rw (le-ltb i set-room h) }

@@ -1,5 +1,5 @@
 -- Sets as bits: propositions in a label byte, actions in 16 bits, places in words of 64.
-use Prim.Native.Nat.{ℕ, zero, suc, _+_, _/_, _%_, _^_, _<_}
+use Prim.Native.Nat.{ℕ, zero, suc, _+_, _*_, _/_, _%_, _^_, _<_}
 use mathlib.Core.Bool.{Bool, true, false, _&&_, _||_}
 use mathlib.Core.List.{List}
 use mathlib.Core.Path.{_≡_}
@@ -9,6 +9,13 @@ use lib.ListN.{length, getD}
 -- bit k of n
 abbrev pub bit : ℕ → ℕ → Bool
 bit n k = eqb (n / 2 ^ k % 2) 1
+
+-- how many words a set of places has, and how many places it has room for
+abbrev pub set-words : ℕ
+set-words = 64
+
+abbrev pub set-room : ℕ
+set-room = 64 * set-words
 
 -- whether the set of places in the words ws has the place whose entry is i
 abbrev pub member : List ℕ → ℕ → Bool
@@ -27,4 +34,4 @@ count f (suc n) = count f n + one (f n)
 pub record Put (before : List ℕ) (i : ℕ) (after : List ℕ) : Type 0 where
   pub as-long : length after ≡ length before
   pub in-bits : ((k : ℕ) → getD before k 0 < 2 ^ 64) → (k : ℕ) → getD after k 0 < 2 ^ 64
-  pub members : (j : ℕ) → member after j ≡ (ltb i 4096 && eqb j i || member before j)
+  pub members : (j : ℕ) → member after j ≡ (ltb i set-room && eqb j i || member before j)

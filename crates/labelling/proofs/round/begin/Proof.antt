@@ -9,9 +9,10 @@ use Rattle.labelling.specs.Round.{Begun}
 use Rattle.labelling.proofs.Passes.{pass-none, pass-join}
 use Rattle.labelling.proofs.round.begin.Statement.{statement}
 use Rattle.labelling.proofs.round.begin.Tie as tie
+use Rattle.sets.specs.Sets.{set-words}
 
 abbrev Inv-loop : tie.InvT-loop
-Inv-loop plan₀ job l new₀ n i₀ plan new i = (i ≤ n) × (length new₀ ≡ 64) × Begun job l 0 i new₀ plan₀ new plan
+Inv-loop plan₀ job l new₀ n i₀ plan new i = (i ≤ n) × (length new₀ ≡ set-words) × Begun job l 0 i new₀ plan₀ new plan
 
 abbrev μ-loop : tie.MeasureT-loop
 μ-loop plan₀ job l new₀ n i₀ plan new i = n - i

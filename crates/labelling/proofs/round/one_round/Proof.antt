@@ -12,12 +12,13 @@ use Rattle.labelling.proofs.Ranging.{from-start}
 use Rattle.labelling.proofs.Rounding.{next-row}
 use Rattle.labelling.proofs.round.one_round.Statement.{statement}
 use Rattle.labelling.proofs.round.one_round.Tie as tie
+use Rattle.sets.specs.Sets.{set-words}
 
 abbrev Inv-loop : tie.InvT-loop
 Inv-loop plan₀ job l phase number old new₀ states start₀ s₀ plan new start s =
     (s ≤ states)
     × From (said job) s start
-    × (length new₀ ≡ 64)
+    × (length new₀ ≡ set-words)
     × Passed job l phase number old 0 (s * l .goals) new₀ plan₀ new plan
 
 abbrev μ-loop : tie.MeasureT-loop

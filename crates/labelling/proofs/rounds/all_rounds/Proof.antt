@@ -5,7 +5,7 @@ use native.Mathlib.Omega.{arith}
 use borrow.Author.Needs.{needs}
 use lib.ListN.{length}
 use Rattle.rules.specs.Bytes.{said}
-use Rattle.sets.specs.Sets.{member, count}
+use Rattle.sets.specs.Sets.{set-room, member, count}
 use Rattle.job.proofs.Asking.{few-places, places-said}
 use Rattle.labelling.proofs.Settling.{Going, going-none, going-more, going-stop, going-over}
 use Rattle.labelling.proofs.rounds.all_rounds.Statement.{statement}
@@ -13,7 +13,7 @@ use Rattle.labelling.proofs.rounds.all_rounds.Tie as tie
 
 abbrev Inv-loop : tie.InvT-loop
 Inv-loop plan₀ job l phase n got₀ few₀ k₀ plan got few k =
-    (k ≤ n) × (length plan ≡ length plan₀) × (few ≡ count (member (got .words)) 4096)
+    (k ≤ n) × (length plan ≡ length plan₀) × (few ≡ count (member (got .words)) set-room)
     × Going (said job) phase (got₀ .words) plan₀ k (got .words) plan
 
 abbrev μ-loop : tie.MeasureT-loop

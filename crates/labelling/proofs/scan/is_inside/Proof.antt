@@ -6,6 +6,7 @@ use native.Mathlib.Omega.{arith}
 use Rattle.job.proofs.Asking.{few-goals, entry-few}
 use Rattle.labelling.proofs.scan.is_inside.Statement.{statement}
 use Rattle.labelling.proofs.scan.is_inside.Tie as tie
+use Rattle.sets.specs.Sets.{set-room}
 
 place-entered-requires : tie.Need-place-entered-requires
 place-entered-requires c κs = search needs
@@ -26,7 +27,7 @@ returns c =
     ∙ rw (
       c .before .entry-number .ensures,
       c .before .before .before .place-entered .ensures,
-      lt-ltb _ 4096 (entry-few (s .pre .0) (s .pre .1 .0) (s .pre .1 .1)),
+      lt-ltb _ set-room (entry-few (s .pre .0) (s .pre .1 .0) (s .pre .1 .1)),
     )
 
 pub is-inside-spec : {M : Type 1} → statement M

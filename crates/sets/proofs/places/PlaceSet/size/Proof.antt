@@ -7,16 +7,16 @@ use lib.Count.{ones, ones-le}
 use lib.ListN.{getD}
 use mir.Syntax.{w64}
 use mir.Val.{Fits}
-use Rattle.sets.specs.Sets.{member, count}
+use Rattle.sets.specs.Sets.{set-words, set-room, member, count}
 use Rattle.sets.proofs.Sizes.{count-none, count-word, count-le}
 use Rattle.sets.proofs.places.PlaceSet.size.Statement.{statement}
 use Rattle.sets.proofs.places.PlaceSet.size.Tie as tie
 
 abbrev Inv-loop : tie.InvT-loop
-Inv-loop self n₀ w₀ n w = (w ≤ 64) × (n ≡ count (member (self .words)) (64 * w))
+Inv-loop self n₀ w₀ n w = (w ≤ set-words) × (n ≡ count (member (self .words)) (64 * w))
 
 abbrev μ-loop : tie.MeasureT-loop
-μ-loop self n₀ w₀ n w = 64 - w
+μ-loop self n₀ w₀ n w = set-words - w
 
 loop-holds : tie.Need-loop-holds Inv-loop μ-loop
 loop-holds c = (omega arith, sym (count-none (member (c .args .t1 .words))))
@@ -53,7 +53,7 @@ loop-again c =
 
 returns : tie.Need-returns Inv-loop μ-loop
 returns c =
-    let e : 64 * c .before .loop .w ≡ 4096 = omega arith in
+    let e : 64 * c .before .loop .w ≡ set-room = omega arith in
     c .before .loop .inv .1 ∙ ap (count (member (c .before .before .args .t1 .words))) e
 
 pub size-spec : {M : Type 1} → statement M
