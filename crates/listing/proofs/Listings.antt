@@ -23,7 +23,7 @@ use Rattle.job.proofs.Readings.{read-refused-some}
 use Rattle.rules.proofs.Planned.{planned-exactly}
 use Rattle.cabinet.proofs.Advising.{advice-planned}
 use Rattle.cabinet.proofs.Answering.{was-read}
-use Rattle.text.specs.Put.{Put}
+use Rattle.text.specs.PutText.{PutText}
 use Rattle.text.specs.Lines.{refusal-line}
 use Rattle.listing.specs.Listing.{first-line, place-line, lines, listing, refuses, lists}
 use Rattle.listing.specs.Told.{advice-line, value-line, moved-line, advised-line, started-line, Printed}
@@ -58,7 +58,7 @@ module _ {b before after : List ℕ} (done : Planning b before 0 after) where
 -- ---- what is left in the buffer, by what planning answered, x, and what reading answered, y
 
 module _ {b before after out left : List ℕ} {n : ℕ} {x : Planned} (plans : Planning b before (planned-figure x) after) where
-  pub printed-refusal : {why : Refusal} → x ≡ Planned.Refused why → Put out 0 (refusal-line (refusal-number why ∷ [])) left n
+  pub printed-refusal : {why : Refusal} → x ≡ Planned.Refused why → PutText out 0 (refusal-line (refusal-number why ∷ [])) left n
       → Printed b before out left n
   printed-refusal {why} e put =
       let p : Planning b before (refusal-number why) after = rw e at plans in
@@ -76,7 +76,7 @@ module _ {b before after out left : List ℕ} {n : ℕ} {x : Planned} (plans : P
       absurd (read-refused-some b why (ap reading-figures (sym i) ∙ r) (kept b .1 (keeps done)))
 
   pub printed-listing : x ≡ Planned.Done → {y : Reading} {l : Layout} → y ≡ Reading.Job l → reading-figures y ≡ reading b
-      → Put out 0 (started-line b after ++ lines (advised-line b after) (l .states) (l .goals)) left n → Printed b before out left n
+      → PutText out 0 (started-line b after ++ lines (advised-line b after) (l .states) (l .goals)) left n → Printed b before out left n
   printed-listing e {l = l} i r put =
       let done : Planning b before 0 after = rw e at plans in
       let f = was-read b i r in

@@ -14,7 +14,7 @@ use Rattle.rules.proofs.Figures.{refusal-some}
 use Rattle.cabinet.specs.Figures.{moved-figures}
 use Rattle.cabinet.specs.declared.place.Moved.{Moved}
 use Rattle.cabinet.specs.declared.place.Place.{Place}
-use Rattle.text.specs.Put.{Put}
+use Rattle.text.specs.PutText.{PutText}
 use Rattle.text.specs.Lines.{refusal-line}
 use Rattle.text.proofs.Putting.{put-then}
 use Rattle.listing.specs.Listing.{lines}
@@ -22,14 +22,14 @@ use Rattle.listing.specs.Told.{or-refused, advice-line, value-line, move
 
 -- An answer x was matched as y, its figures are f, and the text of y's figures was put: it is the text of f.
 pub told : {X F : Type 0} (figures : X → F) (text : F → List ℕ) {l m : List ℕ} {at n : ℕ} {x y : X} {f : F} {t : List ℕ} → x ≡ y
-    → figures x ≡ f → text (figures y) ≡ t → Put l at t m n → Put l at (text f) m n
+    → figures x ≡ f → text (figures y) ≡ t → PutText l at t m n → PutText l at (text f) m n
 told figures text {l} {m} {at} {n} e is same put =
-    subst (λ (w : List ℕ). Put l at w m n) (sym same ∙ sym (ap (λ z. text (figures z)) e) ∙ ap text is) put
+    subst (λ (w : List ℕ). PutText l at w m n) (sym same ∙ sym (ap (λ z. text (figures z)) e) ∙ ap text is) put
 
 pub told-refused : {X F : Type 0} (figures : X → F) (text : F → List ℕ) (refuse : Refusal → X)
     → ((r : Refusal) → text (figures (refuse r)) ≡ refusal-line (refusal-number r ∷ []))
     → {l m : List ℕ} {at n : ℕ} {x : X} {r : Refusal} {f : F} → x ≡ refuse r → figures x ≡ f
-    → Put l at (refusal-line (refusal-number r ∷ [])) m n → Put l at (text f) m n
+    → PutText l at (refusal-line (refusal-number r ∷ [])) m n → PutText l at (text f) m n
 told-refused figures text refuse same {r = r} e is put = told figures text e is (same r) put
 
 -- a refusal's number is not 0, so its line is the text
@@ -61,8 +61,8 @@ each-last f [] i = append-nil (f i)
 each-last f (k ∷ is) i = ap (λ (t : List ℕ). f k ++ t) (each-last f is i) ∙ sym (append-assoc (f k) (each is f) (f i))
 
 -- one turn of a loop that puts a text for each number below n
-pub put-next : (f : ℕ → List ℕ) (k : ℕ) {l m n : List ℕ} {at p q : ℕ} → Put l at (each (upto k) f) m p → Put m p (f k) n q
-    → Put l at (each (upto (k + 1)) f) n q
+pub put-next : (f : ℕ → List ℕ) (k : ℕ) {l m n : List ℕ} {at p q : ℕ} → PutText l at (each (upto k) f) m p → PutText m p (f k) n q
+    → PutText l at (each (upto (k + 1)) f) n q
 put-next f k a b = rw (add-one k, each-last f (upto k) k) (put-then a b)
 
 each-same : (f g : ℕ → List ℕ) (n : ℕ) → ((k : ℕ) → k < n → f k ≡ g k) → each (upto n) f ≡ each (upto n) g
@@ -77,8 +77,8 @@ lines-same f g S Q h =
     each-same (λ s. each (upto Q) (f s)) (λ s. each (upto Q) (g s)) S (λ s hs. each-same (f s) (g s) Q (λ q hq. h s q hs hq))
 
 -- the loop's end
-pub put-upto : (f : ℕ → List ℕ) (k n : ℕ) {l m : List ℕ} {at p : ℕ} → k ≤ n → n ≤ k → Put l at (each (upto k) f) m p
-    → Put l at (each (upto n) f) m p
+pub put-upto : (f : ℕ → List ℕ) (k n : ℕ) {l m : List ℕ} {at p : ℕ} → k ≤ n → n ≤ k → PutText l at (each (upto k) f) m p
+    → PutText l at (each (upto n) f) m p
 put-upto f k n {l} {m} {at} {p} a b put =
     let e : k ≡ n = omega arith in
-    subst (λ (i : ℕ). Put l at (each (upto i) f) m p) e put
+    subst (λ (i : ℕ). PutText l at (each (upto i) f) m p) e put

@@ -5,7 +5,7 @@ use mathlib.Core.List.{List, [], _∷_}
 use lib.Dec.{eqb}
 use Rattle.rules.specs.Answers.{MovedFigures, AdvisedFigures}
 use Rattle.rules.specs.Calls.{started, advised}
-use Rattle.text.specs.Put.{Put}
+use Rattle.text.specs.PutText.{PutText}
 use Rattle.text.specs.Lines.{entry-line, start-line, refusal-line}
 use Rattle.listing.specs.Listing.{Prints}
 
@@ -42,4 +42,4 @@ started-line b p = moved-line b p (started b)
 pub record Printed (b before out left : List ℕ) (n : ℕ) : Type 0 where
   pub text : List ℕ
   pub right : Prints b before text
-  pub put : Put out 0 text left n
+  pub put : PutText out 0 text left n

@@ -3,7 +3,7 @@ ghost use mathlib.Core.List.{_++_};
 ghost use lib.ListN.{take, replicate};
 ghost use Rattle.io.specs.Counts.{Counts};
 ghost use Rattle.game.specs.Below.{upto, each};
-ghost use Rattle.text.specs.Put.{Put};
+ghost use Rattle.text.specs.PutText.{PutText};
 ghost use Rattle.listing.specs.Listing.{lines, Prints};
 ghost use Rattle.listing.specs.Told.{valued-line, started-line, advised-line, Printed};
 use cabinet::place::Moved;
@@ -17,7 +17,7 @@ const ROOM: usize = 94229;
 
 // The first line, of the starting place p.
 fn list_first(out: &mut [u8], at: usize, job: &[u8], plan: &[u8], p: Place) -> usize
-    ensures { λ r. ⌜ Put (now (out .entry)) at
+    ensures { λ r. ⌜ PutText (now (out .entry)) at
         (valued-line (now (job .entry)) (now (plan .entry)) (p .state) (p .goal))
         (now (out .exit)) r ⌝ }
 {
@@ -33,7 +33,7 @@ fn list_first(out: &mut [u8], at: usize, job: &[u8], plan: &[u8], p: Place) -> u
 
 // The first line, wherever the job starts.
 fn list_start(out: &mut [u8], at: usize, job: &[u8], plan: &[u8]) -> usize
-    ensures { λ r. ⌜ Put (now (out .entry)) at
+    ensures { λ r. ⌜ PutText (now (out .entry)) at
         (started-line (now (job .entry)) (now (plan .entry)))
         (now (out .exit)) r ⌝ }
 {
@@ -45,7 +45,7 @@ fn list_start(out: &mut [u8], at: usize, job: &[u8], plan: &[u8]) -> usize
 
 // The line of a place.
 fn list_place(out: &mut [u8], at: usize, job: &[u8], plan: &[u8], p: Place) -> usize
-    ensures { λ r. ⌜ Put (now (out .entry)) at
+    ensures { λ r. ⌜ PutText (now (out .entry)) at
         (advised-line (now (job .entry)) (now (plan .entry)) (p .state) (p .goal))
         (now (out .exit)) r ⌝ }
 {
@@ -61,7 +61,7 @@ fn list_place(out: &mut [u8], at: usize, job: &[u8], plan: &[u8], p: Place) -> u
 
 // The places of one state.
 fn list_state(out: &mut [u8], at: usize, job: &[u8], plan: &[u8], state: u32, goals: u32) -> usize
-    ensures { λ r. ⌜ Put (now (out .entry)) at
+    ensures { λ r. ⌜ PutText (now (out .entry)) at
         (each (upto goals) (advised-line (now (job .entry)) (now (plan .entry)) state))
         (now (out .exit)) r ⌝ }
 {
@@ -76,7 +76,7 @@ fn list_state(out: &mut [u8], at: usize, job: &[u8], plan: &[u8], state: u32, go
 
 // Every place, state by state.
 fn list_states(out: &mut [u8], at: usize, job: &[u8], plan: &[u8], states: u32, goals: u32) -> usize
-    ensures { λ r. ⌜ Put (now (out .entry)) at
+    ensures { λ r. ⌜ PutText (now (out .entry)) at
         (lines (advised-line (now (job .entry)) (now (plan .entry))) states goals)
         (now (out .exit)) r ⌝ }
 {
@@ -98,7 +98,7 @@ fn list_planned(
     states: u32,
     goals: u32,
 ) -> usize
-    ensures { λ r. ⌜ Put (now (out .entry)) at
+    ensures { λ r. ⌜ PutText (now (out .entry)) at
         (started-line (now (job .entry)) (now (plan .entry))
         ++ lines (advised-line (now (job .entry)) (now (plan .entry))) states goals)
         (now (out .exit)) r ⌝ }

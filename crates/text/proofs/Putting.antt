@@ -6,7 +6,7 @@ use native.Mathlib.Omega.{arith}
 use lib.ListN.{length, take, drop, getD, set}
 use lib.Seq.{take-nil, drop-nil, take-all, take-suc, set-out}
 use native.Mathlib.Numerals.{add-one}
-use Rattle.text.specs.Put.{Put}
+use Rattle.text.specs.PutText.{PutText}
 
 -- The same by recursion on the line: the bytes, and the position.
 laid : List ℕ → ℕ → List ℕ → List ℕ
@@ -78,44 +78,44 @@ laid-byte (y ∷ l) (suc at) x = ap (λ (t : List ℕ). y ∷ t) (laid-byte l at
 laid-byte (y ∷ l) zero x = ap (λ (t : List ℕ). x ∷ t) (laid-none l zero)
 
 -- what is put fixes the line and the position
-laid-of : {l : List ℕ} {at : ℕ} {w after : List ℕ} {next : ℕ} → Put l at w after next → after ≡ laid l at w
+laid-of : {l : List ℕ} {at : ℕ} {w after : List ℕ} {next : ℕ} → PutText l at w after next → after ≡ laid l at w
 laid-of {l} {at} {w} p = p .bytes ∙ sym (laid-is l at w)
 
-reached-of : {l : List ℕ} {at : ℕ} {w after : List ℕ} {next : ℕ} → Put l at w after next → next ≡ reached l at w
+reached-of : {l : List ℕ} {at : ℕ} {w after : List ℕ} {next : ℕ} → PutText l at w after next → next ≡ reached l at w
 reached-of {l} {at} {w} p = p .position ∙ sym (reached-is l at w)
 
-as-put : {l : List ℕ} {at : ℕ} {w after : List ℕ} {next : ℕ} → after ≡ laid l at w → next ≡ reached l at w → Put l at w after next
+as-put : {l : List ℕ} {at : ℕ} {w after : List ℕ} {next : ℕ} → after ≡ laid l at w → next ≡ reached l at w → PutText l at w after next
 as-put {l} {at} {w} b n = record { bytes = b ∙ laid-is l at w; position = n ∙ reached-is l at w }
 
 -- ---- what callers cite
 
 -- One text after another is both as one text, also where the line has no room for all of it.
-pub put-then : {l : List ℕ} {at : ℕ} {v w m n : List ℕ} {p q : ℕ} → Put l at v m p → Put m p w n q → Put l at (v ++ w) n q
+pub put-then : {l : List ℕ} {at : ℕ} {v w m n : List ℕ} {p q : ℕ} → PutText l at v m p → PutText m p w n q → PutText l at (v ++ w) n q
 put-then {l} {at} {v} {w} a b =
     as-put (laid-of b ∙ rw (laid-of a, reached-of a) (laid-laid l at v w))
     (reached-of b ∙ rw (laid-of a, reached-of a) (reached-reached l at v w))
 
 -- the same where the first text is two words with a space between them
-pub put-place-then : {l m n w : List ℕ} {at p q : ℕ} (u v : List ℕ) → Put l at (u ++ (32 ∷ v)) m p → Put m p w n q
-    → Put l at (u ++ (32 ∷ (v ++ w))) n q
-put-place-then {l} {n = n} {w} {at} {q = q} u v a b =
-    subst (λ (t : List ℕ). Put l at t n q) (append-assoc u (32 ∷ v) w) (put-then a b)
+pub put-pair-then : {l m n w : List ℕ} {at p q : ℕ} (u v : List ℕ) → PutText l at (u ++ (32 ∷ v)) m p → PutText m p w n q
+    → PutText l at (u ++ (32 ∷ (v ++ w))) n q
+put-pair-then {l} {n = n} {w} {at} {q = q} u v a b =
+    subst (λ (t : List ℕ). PutText l at t n q) (append-assoc u (32 ∷ v) w) (put-then a b)
 
-pub put-none : (l : List ℕ) (at : ℕ) → Put l at [] l at
+pub put-none : (l : List ℕ) (at : ℕ) → PutText l at [] l at
 put-none l at = as-put (laid-none l at) (reached-none l at)
 
-pub put-byte : (l : List ℕ) (at x : ℕ) → at < length l → Put l at (x ∷ []) (set l at x) (at + 1)
+pub put-byte : (l : List ℕ) (at x : ℕ) → at < length l → PutText l at (x ∷ []) (set l at x) (at + 1)
 put-byte l at x h = as-put (laid-byte l at x) (omega (arith, reached-is l at (x ∷ [])))
 
-pub put-nowhere : (l : List ℕ) (at x : ℕ) → length l ≤ at → Put l at (x ∷ []) l at
+pub put-nowhere : (l : List ℕ) (at x : ℕ) → length l ≤ at → PutText l at (x ∷ []) l at
 put-nowhere l at x h = as-put (sym (set-out l at x h) ∙ laid-byte l at x) (omega (arith, reached-is l at (x ∷ [])))
 
 -- the loop that puts a word byte by byte: one turn, and the end
-pub put-more : {l m n : List ℕ} {at p q : ℕ} (w : List ℕ) (i : ℕ) → i < length w → Put l at (take i w) m p
-    → Put m p (getD w i 0 ∷ []) n q → Put l at (take (i + 1) w) n q
+pub put-more : {l m n : List ℕ} {at p q : ℕ} (w : List ℕ) (i : ℕ) → i < length w → PutText l at (take i w) m p
+    → PutText m p (getD w i 0 ∷ []) n q → PutText l at (take (i + 1) w) n q
 put-more w i h a b = rw (add-one i, take-suc w i 0 h) (put-then a b)
 
-pub put-all : {l m : List ℕ} {at p : ℕ} (w : List ℕ) (i : ℕ) → length w ≤ i → Put l at (take i w) m p → Put l at w m p
+pub put-all : {l m : List ℕ} {at p : ℕ} (w : List ℕ) (i : ℕ) → length w ≤ i → PutText l at (take i w) m p → PutText l at w m p
 put-all w i h a = rw (take-all i w h) at a
 
 -- a line keeps its length
@@ -126,11 +126,11 @@ laid-length (x ∷ l) (suc at) w = ap suc (laid-length l at w)
 laid-length (x ∷ l) zero [] = refl
 laid-length (x ∷ l) zero (b ∷ w) = ap suc (laid-length l zero w)
 
-pub put-length : {l w m : List ℕ} {at p : ℕ} → Put l at w m p → length m ≡ length l
+pub put-length : {l w m : List ℕ} {at p : ℕ} → PutText l at w m p → length m ≡ length l
 put-length {l} {w} {at = at} a = ap length (laid-of a) ∙ laid-length l at w
 
 -- Where the line has room, the whole text is put and nothing else changes.
-pub put-whole : {l w m : List ℕ} {at p : ℕ} → at + length w ≤ length l → Put l at w m p
+pub put-whole : {l w m : List ℕ} {at p : ℕ} → at + length w ≤ length l → PutText l at w m p
     → (m ≡ take at l ++ (w ++ drop (at + length w) l)) × (p ≡ at + length w)
 put-whole {l} {w} {at = at} h a = (
   a .bytes ∙ rw (take-all (length l - at) w (omega arith)),
@@ -138,5 +138,5 @@ put-whole {l} {w} {at = at} h a = (
 )
 
 -- Two results that one promise allows are the same.
-pub put-unique : {l w m n : List ℕ} {at p q : ℕ} → Put l at w m p → Put l at w n q → (m ≡ n) × (p ≡ q)
+pub put-unique : {l w m n : List ℕ} {at p q : ℕ} → PutText l at w m p → PutText l at w n q → (m ≡ n) × (p ≡ q)
 put-unique a b = (a .bytes ∙ sym (b .bytes), a .position ∙ sym (b .position))

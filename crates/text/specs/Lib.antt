@@ -1,3 +1,3 @@
 -- What the promises of putting text in a line are said with.
-pub mod Put
+pub mod PutText
 pub mod Lines

@@ -2,13 +2,13 @@
 // Each function puts its text in a line at a position and answers the position after it; what the line has no room for is left out.
 ghost use mathlib.Core.List.{[], _∷_, _++_};
 ghost use Rattle.rules.specs.Answers.{value-number, refusal-number};
-ghost use Rattle.text.specs.Put.{Put};
+ghost use Rattle.text.specs.PutText.{PutText};
 ghost use Rattle.text.specs.Lines.{decimal, value-word, action-word, entry-line, start-line, refusal-line};
 use rules::answer::Refusal;
 use rules::answer::Value;
 
 pub fn put(line: &mut [u8], at: usize, byte: u8) -> usize
-    ensures { λ r. ⌜ Put (now (line .entry)) at (byte ∷ []) (now (line .exit)) r ⌝ }
+    ensures { λ r. ⌜ PutText (now (line .entry)) at (byte ∷ []) (now (line .exit)) r ⌝ }
 {
     if at < line.len() {
         line[at] = byte;
@@ -18,7 +18,7 @@ pub fn put(line: &mut [u8], at: usize, byte: u8) -> usize
 }
 
 pub fn put_word(line: &mut [u8], at: usize, word: &[u8]) -> usize
-    ensures { λ r. ⌜ Put (now (line .entry)) at (now (word .entry)) (now (line .exit)) r ⌝ }
+    ensures { λ r. ⌜ PutText (now (line .entry)) at (now (word .entry)) (now (line .exit)) r ⌝ }
 {
     let mut next = at;
     let mut i: usize = 0;
@@ -30,7 +30,7 @@ pub fn put_word(line: &mut [u8], at: usize, word: &[u8]) -> usize
 }
 
 pub fn put_number(line: &mut [u8], at: usize, n: u32) -> usize
-    ensures { λ r. ⌜ Put (now (line .entry)) at (decimal n) (now (line .exit)) r ⌝ }
+    ensures { λ r. ⌜ PutText (now (line .entry)) at (decimal n) (now (line .exit)) r ⌝ }
 {
     let mut digits = [0u8; 20];
     let k = io::decimal(n as u64, &mut digits);
@@ -38,7 +38,7 @@ pub fn put_number(line: &mut [u8], at: usize, n: u32) -> usize
 }
 
 pub fn put_value(line: &mut [u8], at: usize, value: Value) -> usize
-    ensures { λ r. ⌜ Put (now (line .entry)) at (value-word (value-number value)) (now (line .exit)) r ⌝ }
+    ensures { λ r. ⌜ PutText (now (line .entry)) at (value-word (value-number value)) (now (line .exit)) r ⌝ }
 {
     match value {
         Value::Losing => put_word(line, at, b"losing"),
@@ -49,7 +49,7 @@ pub fn put_value(line: &mut [u8], at: usize, value: Value) -> usize
 
 // The action, or "-" where none is named.
 pub fn put_action(line: &mut [u8], at: usize, action: u8) -> usize
-    ensures { λ r. ⌜ Put (now (line .entry)) at (action-word action) (now (line .exit)) r ⌝ }
+    ensures { λ r. ⌜ PutText (now (line .entry)) at (action-word action) (now (line .exit)) r ⌝ }
 {
     if action == 255 {
         return put(line, at, b'-');
@@ -58,8 +58,8 @@ pub fn put_action(line: &mut [u8], at: usize, action: u8) -> usize
 }
 
 // A state and a goal state, a space between them.
-fn put_place(line: &mut [u8], at: usize, state: u32, goal: u32) -> usize
-    ensures { λ r. ⌜ Put (now (line .entry)) at (decimal state ++ (32 ∷ decimal goal)) (now (line .exit)) r ⌝ }
+fn put_state_and_goal(line: &mut [u8], at: usize, state: u32, goal: u32) -> usize
+    ensures { λ r. ⌜ PutText (now (line .entry)) at (decimal state ++ (32 ∷ decimal goal)) (now (line .exit)) r ⌝ }
 {
     let at = put_number(line, at, state);
     let at = put(line, at, b' ');
@@ -76,9 +76,9 @@ pub fn put_entry(
     action: u8,
     number: u16,
 ) -> usize
-    ensures { λ r. ⌜ Put (now (line .entry)) at (entry-line state goal (value-number value) action number) (now (line .exit)) r ⌝ }
+    ensures { λ r. ⌜ PutText (now (line .entry)) at (entry-line state goal (value-number value) action number) (now (line .exit)) r ⌝ }
 {
-    let at = put_place(line, at, state, goal);
+    let at = put_state_and_goal(line, at, state, goal);
     let at = put(line, at, b' ');
     let at = put_value(line, at, value);
     let at = put(line, at, b' ');
@@ -90,10 +90,10 @@ pub fn put_entry(
 
 // The first line of a listing.
 pub fn put_start(line: &mut [u8], at: usize, state: u32, goal: u32, value: Value) -> usize
-    ensures { λ r. ⌜ Put (now (line .entry)) at (start-line state goal (value-number value)) (now (line .exit)) r ⌝ }
+    ensures { λ r. ⌜ PutText (now (line .entry)) at (start-line state goal (value-number value)) (now (line .exit)) r ⌝ }
 {
     let at = put_word(line, at, b"start ");
-    let at = put_place(line, at, state, goal);
+    let at = put_state_and_goal(line, at, state, goal);
     let at = put(line, at, b' ');
     let at = put_value(line, at, value);
     put(line, at, b'\n')
@@ -101,7 +101,7 @@ pub fn put_start(line: &mut [u8], at: usize, state: u32, goal: u32, value: Value
 
 // The line of a refusal.
 pub fn put_refusal(line: &mut [u8], at: usize, why: Refusal) -> usize
-    ensures { λ r. ⌜ Put (now (line .entry)) at (refusal-line (refusal-number why ∷ [])) (now (line .exit)) r ⌝ }
+    ensures { λ r. ⌜ PutText (now (line .entry)) at (refusal-line (refusal-number why ∷ [])) (now (line .exit)) r ⌝ }
 {
     let at = put_word(line, at, b"refused ");
     let at = put_number(line, at, why.number());

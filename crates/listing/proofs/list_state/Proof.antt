@@ -3,7 +3,7 @@ use Prim.Native.Nat.{_≤_, _-_}
 use native.Mathlib.Omega.{arith}
 use borrow.Author.Needs.{needs}
 use Rattle.game.specs.Below.{upto, each}
-use Rattle.text.specs.Put.{Put}
+use Rattle.text.specs.PutText.{PutText}
 use Rattle.text.proofs.Putting.{put-none, put-length}
 use Rattle.listing.specs.Told.{advised-line}
 use Rattle.listing.proofs.Telling.{put-next, put-upto}
@@ -12,7 +12,7 @@ use Rattle.listing.proofs.list_state.Tie as tie
 
 abbrev Inv-loop : tie.InvT-loop
 Inv-loop out₀ at job plan state goals next₀ goal₀ out next goal =
-    (goal ≤ goals) × Put out₀ at (each (upto goal) (advised-line job plan state)) out next
+    (goal ≤ goals) × PutText out₀ at (each (upto goal) (advised-line job plan state)) out next
 
 abbrev μ-loop : tie.MeasureT-loop
 μ-loop out₀ at job plan state goals next₀ goal₀ out next goal = goals - goal

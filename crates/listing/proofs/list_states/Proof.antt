@@ -3,7 +3,7 @@ use Prim.Native.Nat.{_≤_, _-_}
 use native.Mathlib.Omega.{arith}
 use borrow.Author.Needs.{needs}
 use Rattle.game.specs.Below.{upto, each}
-use Rattle.text.specs.Put.{Put}
+use Rattle.text.specs.PutText.{PutText}
 use Rattle.text.proofs.Putting.{put-none, put-length}
 use Rattle.listing.specs.Listing.{lines}
 use Rattle.listing.specs.Told.{advised-line}
@@ -13,7 +13,7 @@ use Rattle.listing.proofs.list_states.Tie as tie
 
 abbrev Inv-loop : tie.InvT-loop
 Inv-loop out₀ at job plan states goals next₀ state₀ out next state =
-    (state ≤ states) × Put out₀ at (lines (advised-line job plan) state goals) out next
+    (state ≤ states) × PutText out₀ at (lines (advised-line job plan) state goals) out next
 
 abbrev μ-loop : tie.MeasureT-loop
 μ-loop out₀ at job plan states goals next₀ state₀ out next state = states - state

@@ -1,12 +1,12 @@
 -- `put_entry` meets its contract: the texts of the words, one after another.
 use borrow.Author.Needs.{needs}
 use Rattle.text.specs.Lines.{decimal}
-use Rattle.text.proofs.Putting.{put-then, put-place-then}
+use Rattle.text.proofs.Putting.{put-then, put-pair-then}
 use Rattle.text.proofs.put_entry.Statement.{statement}
 use Rattle.text.proofs.put_entry.Tie as tie
 
-put-place-requires : tie.Need-put-place-requires
-put-place-requires c κs = search needs
+put-state-and-goal-requires : tie.Need-put-state-and-goal-requires
+put-state-and-goal-requires c κs = search needs
 
 put-requires : tie.Need-put-requires
 put-requires c κs = search needs
@@ -43,7 +43,7 @@ returns c =
     let c2 = c3 .before .before .before .before in
     let c1 = c2 .before .before .before .before in
     let a = c1 .before .before .before .args in
-    put-place-then (decimal (a .state)) (decimal (a .goal)) (c1 .put-place .ensures)
+    put-pair-then (decimal (a .state)) (decimal (a .goal)) (c1 .put-state-and-goal .ensures)
     (put-then (c2 .put .ensures) (put-then (c3 .put-value .ensures)
     (put-then (c4 .put2 .ensures) (put-then (c5 .put-action .ensures)
     (put-then (c6 .put3 .ensures) (put-then (c7 .put-number .ensures) (c8 .put4 .ensures)))))))
@@ -52,7 +52,7 @@ pub put-entry-spec : {M : Type 1} → statement M
 put-entry-spec =
     tie.close
     (tie.spec
-    put-place-requires
+    put-state-and-goal-requires
     put-requires
     put-value-requires
     put-requires-2

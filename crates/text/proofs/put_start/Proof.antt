@@ -1,7 +1,7 @@
 -- `put_start` meets its contract: the texts of the words, one after another.
 use borrow.Author.Needs.{needs}
 use Rattle.text.specs.Lines.{decimal}
-use Rattle.text.proofs.Putting.{put-then, put-place-then}
+use Rattle.text.proofs.Putting.{put-then, put-pair-then}
 use Rattle.text.proofs.put_start.Statement.{statement}
 use Rattle.text.proofs.put_start.Tie as tie
 
@@ -11,8 +11,8 @@ slice-aggregate-put-word c = search needs
 put-word-requires : tie.Need-put-word-requires
 put-word-requires c κs = search needs
 
-put-place-requires : tie.Need-put-place-requires
-put-place-requires c κs = search needs
+put-state-and-goal-requires : tie.Need-put-state-and-goal-requires
+put-state-and-goal-requires c κs = search needs
 
 put-requires : tie.Need-put-requires
 put-requires c κs = search needs
@@ -34,7 +34,7 @@ returns c =
     let c2 = c3 .before .before .before .before in
     let c1 = c2 .before .before .before .before in
     let a = c1 .before .before .before .before .args in
-    put-then (c1 .put-word .ensures) (put-place-then (decimal (a .state)) (decimal (a .goal)) (c2 .put-place .ensures)
+    put-then (c1 .put-word .ensures) (put-pair-then (decimal (a .state)) (decimal (a .goal)) (c2 .put-state-and-goal .ensures)
     (put-then (c3 .put .ensures) (put-then (c4 .put-value .ensures) (c5 .put2 .ensures))))
 
 pub put-start-spec : {M : Type 1} → statement M
@@ -43,7 +43,7 @@ put-start-spec =
     (tie.spec
     slice-aggregate-put-word
     put-word-requires
-    put-place-requires
+    put-state-and-goal-requires
     put-requires
     put-value-requires
     put-requires-2

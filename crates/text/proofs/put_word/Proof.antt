@@ -3,13 +3,13 @@ use Prim.Native.Nat.{_≤_, _-_}
 use native.Mathlib.Omega.{arith}
 use lib.ListN.{length, take}
 use borrow.Author.Needs.{needs}
-use Rattle.text.specs.Put.{Put}
+use Rattle.text.specs.PutText.{PutText}
 use Rattle.text.proofs.Putting.{put-none, put-more, put-all, put-length}
 use Rattle.text.proofs.put_word.Statement.{statement}
 use Rattle.text.proofs.put_word.Tie as tie
 
 abbrev Inv-loop : tie.InvT-loop
-Inv-loop line₀ at word next₀ i₀ line next i = (i ≤ length word) × Put line₀ at (take i word) line next
+Inv-loop line₀ at word next₀ i₀ line next i = (i ≤ length word) × PutText line₀ at (take i word) line next
 
 abbrev μ-loop : tie.MeasureT-loop
 μ-loop line₀ at word next₀ i₀ line next i = length word - i

@@ -1,8 +1,8 @@
--- `put_place` meets its contract: three texts, one after another.
+-- `put_state_and_goal` meets its contract: three texts, one after another.
 use borrow.Author.Needs.{needs}
 use Rattle.text.proofs.Putting.{put-then}
-use Rattle.text.proofs.put_place.Statement.{statement}
-use Rattle.text.proofs.put_place.Tie as tie
+use Rattle.text.proofs.put_state_and_goal.Statement.{statement}
+use Rattle.text.proofs.put_state_and_goal.Tie as tie
 
 put-number-requires : tie.Need-put-number-requires
 put-number-requires c κs = search needs
@@ -23,6 +23,6 @@ returns c =
     let c1 = c2 .before .before .before .before in
     put-then (c1 .put-number .ensures) (put-then (c2 .put .ensures) (c3 .put-number2 .ensures))
 
-pub put-place-spec : {M : Type 1} → statement M
-put-place-spec =
+pub put-state-and-goal-spec : {M : Type 1} → statement M
+put-state-and-goal-spec =
     tie.close (tie.spec put-number-requires put-requires put-number-requires-2 same-length returns)
