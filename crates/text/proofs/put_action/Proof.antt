@@ -11,7 +11,7 @@ same-length : tie.Need-same-length
 same-length c = search needs
 
 returns : tie.Need-returns
-returns c = rw (eq-eqb _ _ (c .before .before .before .before .if1 .taken)) (c .before .before .put .ensures)
+returns c = rw (eq-eqb _ 255 (c .before .before .before .before .if1 .taken)) (c .before .before .put .ensures)
 
 put-number-requires : tie.Need-put-number-requires
 put-number-requires c κs = search needs
@@ -20,7 +20,7 @@ same-length-2 : tie.Need-same-length-2
 same-length-2 c = search needs
 
 returns-2 : tie.Need-returns-2
-returns-2 c = rw (ne-eqb _ _ (c .before .before .before .before .if1 .left)) (c .before .before .put-number .ensures)
+returns-2 c = rw (ne-eqb _ 255 (c .before .before .before .before .if1 .left)) (c .before .before .put-number .ensures)
 
 pub put-action-spec : {M : Type 1} → statement M
 put-action-spec =
