@@ -33,9 +33,10 @@ endif
 
 .PHONY: test plan lib examples install bench soak tests try-examples try-listing try-inputs need-rt need-cc need-cargo need-x86
 
-# Everything: the layout of the files, the calls from C, the listing, many inputs, and last the toolchain's gate.
+# Everything, from nothing: the layout of the files, the calls from C, the listing, many inputs, and last the toolchain's gate.
 test: need-rt need-cc need-cargo
 	@rt fmt --check
+	@rm -f build/libcabinet.a
 	@$(MAKE) --no-print-directory try-examples try-inputs try-listing
 	@rt ci
 
@@ -82,7 +83,8 @@ soak: tests
 
 # Times beside the same rounds in plain Rust and the independent planner, also into docs/BENCH.md.
 bench: need-x86 tests
-	@$(TESTS) bench "$$(date +%Y-%m-%d)" | tee build/bench.md
+	@$(TESTS) bench "$$(date +%Y-%m-%d)" >build/bench.md
+	@cat build/bench.md
 	@{ echo '# Speed'; echo; cat build/bench.md; } >docs/BENCH.md
 
 install: lib

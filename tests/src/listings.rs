@@ -1,16 +1,19 @@
-//! Runs the listing program on many jobs, their bytes in pieces, and holds what it prints to the oracle's listing.
+//! Runs the listing program on many jobs, some with their bytes in pieces, and holds what it prints to the oracle's listing.
 
 use crate::make::{self, Inputs};
 use crate::oracle;
 use crate::random::Random;
 use crate::report::{self, Input};
 use std::io::Write;
-use std::process::{Command, Stdio};
-use std::time::Duration;
+use std::process::{Command, Output, Stdio};
+use std::time::{Duration, Instant};
 
-/// Jobs that are made for the listing, and inputs of the ordinary run beside them.
-const MADE: u64 = 300;
+/// Jobs of the ordinary run: the first ones, which are given before the edges, and some of the mixed ones; and those made for the listing.
+const GIVEN: u64 = 7;
 const MIXED: u64 = 300;
+const MADE: u64 = 300;
+/// One in so many is handed over in pieces.
+const IN_PIECES: u64 = 15;
 
 /// What has to have come up in the texts: the lines of the largest plan, figures of several digits, every value and every refusal.
 #[derive(Default)]
@@ -62,45 +65,68 @@ impl Seen {
     }
 }
 
-/// What the program prints for these bytes, handed over in up to five pieces.
-fn printed(words: &[String], random: &mut Random, job: &[u8]) -> Vec<u8> {
+/// What the program prints for these bytes, with a pause before each of the places where they are cut.
+fn printed(words: &[String], job: &[u8], cuts: &[usize], pause: Duration) -> Output {
     let mut command = Command::new(&words[0]);
     command.args(&words[1..]).stdin(Stdio::piped()).stdout(Stdio::piped());
     let mut process = command.spawn().expect("the listing program can be started");
     let mut to = process.stdin.take().expect("a pipe");
-    let mut rest = job;
-    for _ in 0..random.below(5) {
-        let (piece, more) = rest.split_at(random.below(rest.len() + 1));
+    let mut at = 0;
+    for &cut in cuts {
         // A program that has taken in enough may end before all is written.
-        let _ = to.write_all(piece).and_then(|()| to.flush());
-        std::thread::sleep(Duration::from_millis(1));
-        rest = more;
+        let _ = to.write_all(&job[at..cut]).and_then(|()| to.flush());
+        std::thread::sleep(pause);
+        at = cut;
     }
-    let _ = to.write_all(rest);
+    let _ = to.write_all(&job[at..]);
     drop(to);
-    process.wait_with_output().expect("the listing program ends").stdout
+    process.wait_with_output().expect("the listing program ends")
+}
+
+/// Longer than the program needs to start, so that the pieces before and after it are read by themselves.
+fn pause(words: &[String]) -> Duration {
+    let start = Instant::now();
+    printed(words, &[], &[], Duration::ZERO);
+    4 * start.elapsed() + Duration::from_millis(2)
+}
+
+/// Ends the run unless the pieces come apart: a program that reads only once must be found.
+fn pieces_come_apart(words: &[String], pause: Duration) {
+    let once = ["sh", "-c", "dd bs=65536 count=1 2>/dev/null | \"$@\"", "sh"];
+    let once: Vec<String> = once.map(String::from).into_iter().chain(words.iter().cloned()).collect();
+    let plate = make::known::one_plate();
+    if printed(&once, &plate, &[7], pause).stdout == oracle::listing(&plate).as_bytes() {
+        println!("a listing that reads once is not found");
+        std::process::exit(1);
+    }
 }
 
 /// Ends the run at the first text that differs; otherwise says whether everything has come up.
 pub fn agree(words: &[String], seed: u64) -> bool {
     let inputs = Inputs::new(seed);
-    let fixed = (0..7).map(|number| inputs.get(number));
+    let fixed = (0..GIVEN + make::known::edges().len() as u64).map(|number| inputs.get(number));
     let made =
         (0..MADE).map(|number| Input { seed, number, kind: "made for the listing", job: make::listed(seed, number) });
     let mixed = (0..MIXED).map(|number| inputs.get(inputs.fixed() + number));
-    let (mut seen, mut count) = (Seen::default(), 0);
+    let (mut seen, mut count, pause) = (Seen::default(), 0, pause(words));
+    pieces_come_apart(words, pause);
     for input in fixed.chain(made).chain(mixed) {
+        let random = &mut Random::new(!seed, input.number);
+        let pieces = if count % IN_PIECES == 0 { random.between(1, 4) } else { 0 };
+        let mut cuts: Vec<usize> = (0..pieces).map(|_| random.below(input.job.len() + 1)).collect();
+        cuts.sort_unstable();
         let due = oracle::listing(&input.job);
-        let text = printed(words, &mut Random::new(!seed, input.number), &input.job);
-        if text != due.as_bytes() {
-            let text = String::from_utf8_lossy(&text).into_owned();
+        let output = printed(words, &input.job, &cuts, pause);
+        if output.stdout != due.as_bytes() || !output.status.success() {
+            let text = String::from_utf8_lossy(&output.stdout).into_owned();
             let line = due.lines().zip(text.lines().chain(std::iter::repeat(""))).find(|(due, line)| due != line);
-            report::stop(&input, None, &format!("the listing differs; due and printed: {line:?}"));
+            let wrong = format!("the listing differs; cut at {cuts:?}, {}; due and printed: {line:?}", output.status);
+            report::stop(&input, None, &wrong);
         }
         seen.text(&due);
         seen.overlong |= input.job.len() > oracle::TAKEN;
         count += 1;
     }
-    println!("listing: {count} seeded jobs agree");
+    println!("listing: {count} jobs agree");
     seen.covered()
 }

@@ -1,15 +1,23 @@
 -- What listed moves make, on any kind of place: where plays may go, whoever chooses.
 use Prim.Native.Nat.{ℕ, zero, suc, _+_, _≤_}
 use mathlib.Core.Bool.{Bool, true}
-use mathlib.Core.Path.{_≡_, subst}
+use mathlib.Core.List.{[], _∷_}
+use mathlib.Core.Path.{_≡_, refl, subst}
 use native.Mathlib.Omega.{arith}
-use Rattle.game.specs.Game.{Arena, Play, last, made, Inside, Accepted, Lawful, Way, advance, run, Obeys, Winning, Possible, HopesIn}
-use Rattle.game.specs.Visits.{Goes, so-far, further}
+use lib.ListN.{length, length-append}
+use Rattle.game.specs.Game.{Arena, Play, begin, then, last, made, Inside, Accepted, Lawful, Way, advance, run, Obeys}
+use Rattle.game.specs.Game.{Winning, Possible, HopesIn}
+use Rattle.game.specs.Visits.{Goes, so-far, further, trace}
 use Rattle.game.proofs.Rounds.{won, hope, into-hope}
 use Rattle.game.proofs.Plays.{Next, over, on, next}
 use Rattle.game.proofs.Search.{has-lowest}
 use Rattle.game.proofs.Values.{winning-iff}
 use Rattle.game.proofs.Hopes.{hopes-iff, hope-reaches}
+
+-- a trace has a letter for each place visited, the first one included, and so always at least one
+pub trace-long : {P : Type 0} (label : P → ℕ) (h : Play P) → length (trace label h) ≡ suc (made h)
+trace-long label (begin p) = refl
+trace-long label (then h a p) = omega (arith, length-append (trace label h) (label p ∷ []), trace-long label h)
 
 module _ (G : Arena) where
   -- what goes on from a play that goes on from h goes on from h

@@ -1,5 +1,5 @@
 -- Choosing against outcomes, on any kind of place: plays, ways of choosing, values, numbers, and what a plan says of a place.
--- Document 01, "Places, plays and values". Nothing here speaks of rounds or of a planner. A job's places are one such arena (Job.antt).
+-- Document 01, "Places, plays and values". Nothing here speaks of rounds or of a planner. A job's places are one such arena (Job.antt of `rules`).
 use Prim.Native.Nat.{ℕ, zero, suc, _≤_, _<_}
 use mathlib.Core.Bool.{Bool, true, false, cond}
 use mathlib.Core.List.{List, List·Memᴰ}
