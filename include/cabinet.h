@@ -27,14 +27,17 @@ extern "C" {
 #define CABINET_JOB_MAX 14518
 #define CABINET_PLAN_MAX 16384
 
-/* Numbers that say no. The first in this order that applies is the answer; 0 is success. */
+/* Numbers that say no. The first in this order that applies is the answer, though 12 and 13 share one place, which the first bad record
+   decides; 0 is success. */
 enum cabinet_refusal {
   CABINET_OK = 0,
   CABINET_SHORT = 1,    /* the job is under 16 bytes */
   CABINET_CONTENTS = 2, /* an offset or end breaks the job's layout, or Counts is not 6 bytes long */
   CABINET_COUNTS = 3,   /* a count or a first number is out of range */
   CABINET_LABELS = 4,   /* not one label a state, or a label of 2^P or more */
-  CABINET_MOVES = 5,    /* not whole records, more than 4,096, a field out of range, or records not strictly ascending */
+  CABINET_MOVES = 5,    /* Moves is not whole records, or has more than 4,096 */
+  CABINET_FIELD = 12,   /* a field of a record is out of range; `record` says which */
+  CABINET_ORDER = 13,   /* a record does not come after the one before it, compared field by field; `record` says which */
   CABINET_GOAL = 6,     /* Goal has the wrong length, a goal state is not below Q, or a mark is above 1 */
   CABINET_ROOM = 7,     /* the plan buffer is under 4 * S * Q bytes */
   CABINET_ROUNDS = 8,   /* labelling would still add a place in round S * Q; proved never to happen */
@@ -53,33 +56,36 @@ enum cabinet_value {
 /* The action of a place that has none: the goal is met, or lost. */
 #define CABINET_NO_ACTION 255
 
-/* The answers. The refusal comes first; where it is not 0, every other figure is 0. */
+/* The answers. The refusal comes first; where it is not 0, every other figure is 0, save `record` with 12 and 13: the number of the first
+   bad record of Moves, counted from 0 at the front, so that its fields are bytes 3 * record to 3 * record + 2 of Moves. All records before
+   it are good. Each is judged by its fields and then by its order, so 13 says that its fields are in range, and never names record 0. With
+   every other refusal, and on success, `record` is 0. */
 typedef struct {
-  uint32_t refusal;
+  uint32_t refusal, record;
 } cabinet_planned;
 
 typedef struct {
-  uint32_t refusal, state, goal;
+  uint32_t refusal, state, goal, record;
 } cabinet_moved;
 
 typedef struct {
-  uint32_t refusal, value, action, number;
+  uint32_t refusal, value, action, number, record;
 } cabinet_advised;
 
 /* Plans the job into the buffer: entry s * Q + q, four bytes, says of state s with goal state q its value, its action (255: none) and
-   its number, low byte first. Bytes beyond the plan stay as they are. Gives 1 to 8. */
+   its number, low byte first. Bytes beyond the plan stay as they are. Gives 1 to 8, 12, 13. */
 cabinet_planned cabinet_plan(const uint8_t *job, size_t job_len, uint8_t *plan, size_t plan_len);
 
-/* The starting place: the first state, with the goal state that has read its label. Gives 1 to 6. */
+/* The starting place: the first state, with the goal state that has read its label. Gives 1 to 6, 12, 13. */
 cabinet_moved cabinet_start(const uint8_t *job, size_t job_len);
 
 /* The place after an observed move: at this place the action was taken and led to the outcome. Any figures may be handed over. Following
-   is allowed where the goal is met, too. Gives 1 to 6, 9, 11. */
+   is allowed where the goal is met, too. Gives 1 to 6, 9, 11, 12, 13. */
 cabinet_moved cabinet_follow(const uint8_t *job, size_t job_len, uint32_t state, uint32_t goal, uint32_t action, uint32_t outcome);
 
 /* What a plan says of a place. From a winning place the goal is met within `number` moves if the advice is followed; from a pending one some
    outcomes reach a winning place in `number` moves. The plan is read and never written, and trusted by the asked entry's shape only: that
-   it belongs to the job is yours to see to. Gives 1 to 7, 9, 10. */
+   it belongs to the job is yours to see to. Gives 1 to 7, 9, 10, 12, 13. */
 cabinet_advised cabinet_advice(const uint8_t *job, size_t job_len, const uint8_t *plan, size_t plan_len, uint32_t state, uint32_t goal);
 
 /* In short:

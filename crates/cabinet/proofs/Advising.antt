@@ -8,6 +8,7 @@ use borrow.Author.Tests.{eq-eqb, lt-ltb, le-ltb, le-leb}
 use lib.ListN.{length, drop, length-append}
 use Rattle.game.specs.Game.{Inside, Right, lost, met, wins, hopes, says}
 use Rattle.rules.specs.Job.{place, places, arena}
+use Rattle.rules.specs.Fault.{Fault, only}
 use Rattle.rules.specs.Bytes.{refusal, said}
 use Rattle.rules.specs.Keeps.{Keeps}
 use Rattle.rules.specs.Plan.{room, blank, due, shaped}
@@ -56,14 +57,14 @@ right-shaped {b} k p i (hopes {a} {n = suc n} h m s) =
     ∙ due-true (said b .actions) (places (said b)) a (suc n) 1 (L .counted p (t .0) a (t .1)) (omega arith)
     (omega (arith, size-of (said b)))
 
-planned-long : {b before after : List ℕ} {r : ℕ} → Planning b before r after → r ≡ 0 → room (said b) ≤ length after
+planned-long : {b before after : List ℕ} {f : Fault} → Planning b before f after → f .number ≡ 0 → room (said b) ≤ length after
 planned-long (refused n) z = absurd (n z)
 planned-long (no-room e l) z = absurd (omega arith)
 planned-long (overrun e l o) z = absurd (omega arith)
 planned-long {b} {before} (planned {p} e l n plan) z = omega (arith, plan .long, length-append p (drop (room (said b)) before))
 
 -- What advice answers of each place of a plan just made is the plan's entry.
-pub advice-planned : {b before after : List ℕ} → Planning b before 0 after → (s q : ℕ) → is-place (said b) s q ≡ true
+pub advice-planned : {b before after : List ℕ} → Planning b before (only 0) after → (s q : ℕ) → is-place (said b) s q ≡ true
     → advised b after s q ≡ advice-of (entry-of b after (place s q))
 advice-planned {b} {before} {after} done s q p =
     let k = planned-exactly done .0 refl .0 in

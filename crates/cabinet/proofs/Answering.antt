@@ -8,9 +8,10 @@ use borrow.Author.Tests.{ne-eqb, lt-ltb, le-ltb}
 use lib.Dec.{ltb, eqb}
 use lib.ListN.{length}
 use Rattle.rules.specs.Job.{place, places, entry-number, entered}
+use Rattle.rules.specs.Fault.{only}
 use Rattle.rules.specs.Bytes.{refusal, said}
 use Rattle.rules.specs.Plan.{entry, room, shaped}
-use Rattle.rules.specs.Answers.{refusal-number, advised-figures, ShapeOf}
+use Rattle.rules.specs.Answers.{refusal-fault, advised-figures, ShapeOf}
 use Rattle.rules.specs.Calls.{refused-move, moved-to, started, is-place, followed, refused-advice, advice-of, advised}
 use Rattle.rules.specs.declared.answer.Advised.{Advised}
 use Rattle.rules.specs.declared.answer.Refusal.{Refusal}
@@ -39,13 +40,13 @@ module _ (b : List ℕ) {x : Reading} {r : Refusal} (i : x ≡ Reading.Refused r
   faulty : eqb (refusal b) 0 ≡ false
   faulty = ne-eqb (refusal b) 0 (read-refused-some b r answer)
 
-  pub start-refused : refused-move (refusal-number r) ≡ started b
+  pub start-refused : refused-move (refusal-fault r) ≡ started b
   start-refused = rw (faulty, read-refused b r answer)
 
-  pub follow-refused : (s q a t : ℕ) → refused-move (refusal-number r) ≡ followed b s q a t
+  pub follow-refused : (s q a t : ℕ) → refused-move (refusal-fault r) ≡ followed b s q a t
   follow-refused s q a t = rw (faulty, read-refused b r answer)
 
-  pub advice-refused : (p : List ℕ) (s q : ℕ) → refused-advice (refusal-number r) ≡ advised b p s q
+  pub advice-refused : (p : List ℕ) (s q : ℕ) → refused-advice (refusal-fault r) ≡ advised b p s q
   advice-refused p s q = rw (faulty, read-refused b r answer)
 
 -- ---- the bytes keep the rules
@@ -69,12 +70,12 @@ module _ {b : List ℕ} {l : Layout} (f : Fit b l) where
     is-one h g = rw (lt-ltb s (said b .states) (rw (states-said f) at h), lt-ltb q (said b .goals) (rw (goals-said f) at g))
 
   module _ (s q a t : ℕ) where
-    pub follow-no-place : is-place (said b) s q ≡ false → refused-move 9 ≡ followed b s q a t
+    pub follow-no-place : is-place (said b) s q ≡ false → refused-move (only 9) ≡ followed b s q a t
     follow-no-place p = rw (sound, p)
 
     -- what looking for the record answered, x, was matched
     pub follow-unknown : is-place (said b) s q ≡ true → {x : Found} → x ≡ Found.Nothing → FoundOf (said b) s a t x
-        → refused-move 11 ≡ followed b s q a t
+        → refused-move (only 11) ≡ followed b s q a t
     follow-unknown p m h = let n = rw m at h in rw (sound, p, n)
 
     pub follow-moves : is-place (said b) s q ≡ true → {x : Found} {k : ℕ} → x ≡ Found.At k → FoundOf (said b) s a t x
@@ -86,14 +87,14 @@ module _ {b : List ℕ} {l : Layout} (f : Fit b l) where
   outcome-state s a t m h = let (y, l, r) = rw m at h in found-below f s a t l r
 
   module _ (p : List ℕ) (s q : ℕ) where
-    pub advice-short : length p < 4 * (l .states * l .goals) → refused-advice 7 ≡ advised b p s q
+    pub advice-short : length p < 4 * (l .states * l .goals) → refused-advice (only 7) ≡ advised b p s q
     advice-short h = rw (sound, lt-ltb (length p) (room (said b)) (rw (places-said f) at h))
 
     module _ (h : 4 * (l .states * l .goals) ≤ length p) where
       long : ltb (length p) (room (said b)) ≡ false
       long = le-ltb (length p) (room (said b)) (rw (places-said f) at h)
 
-      pub advice-no-place : is-place (said b) s q ≡ false → refused-advice 9 ≡ advised b p s q
+      pub advice-no-place : is-place (said b) s q ≡ false → refused-advice (only 9) ≡ advised b p s q
       advice-no-place i = rw (sound, long, i)
 
       -- e was read as the entry of the place
@@ -109,7 +110,7 @@ module _ {b : List ℕ} {l : Layout} (f : Fit b l) where
 
         -- its shape, x, was matched
         pub advice-shapeless : {x : Shape} → x ≡ Shape.Nothing → ShapeOf (l .actions) (l .states * l .goals) e x
-            → refused-advice 10 ≡ advised b p s q
+            → refused-advice (only 10) ≡ advised b p s q
         advice-shapeless m h = let n = rw m at h in rw (sound, long, i, shape-said, n)
 
         pub advice-says : {x : Shape} {v : Value} → x ≡ Shape.Of v → ShapeOf (l .actions) (l .states * l .goals) e x

@@ -10,6 +10,7 @@ use Rattle.game.specs.Game.{HopesIn, Right, lost, met, wins, hopes}
 use Rattle.rules.specs.Job.{arena}
 use Rattle.rules.specs.Bytes.{said}
 use Rattle.rules.specs.Keeps.{Keeps}
+use Rattle.rules.specs.Fault.{only}
 use Rattle.rules.specs.Answers.{MovedFigures}
 use Rattle.rules.specs.Calls.{Planning, moved-to, followed, advice-of}
 use Rattle.rules.specs.declared.place.Place.{Place}
@@ -27,7 +28,7 @@ use Rattle.cabinet.proofs.Starting.{followed-listed}
 use Rattle.cabinet.proofs.Turns.{at, first, stands-inside, inside-stands, followed-stands, listed-taken, answered-before, turns-go}
 use Rattle.cabinet.proofs.Turns.{allowed-answered}
 
-module _ {b before after : List ℕ} (done : Planning b before 0 after) where
+module _ {b before after : List ℕ} (done : Planning b before (only 0) after) where
   pub keeps : Keeps b
   keeps = planned-exactly done .0 refl .0
 

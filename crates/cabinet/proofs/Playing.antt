@@ -11,6 +11,7 @@ use Rattle.game.specs.Game.{Arena, Play, begin, last, made, says, Inside, Open,
 use Rattle.game.specs.Game.{Right, lost, met, wins, hopes}
 use Rattle.rules.specs.Job.{place, start, arena}
 use Rattle.rules.specs.Bytes.{refusal, said}
+use Rattle.rules.specs.Fault.{only}
 use Rattle.rules.specs.Answers.{MovedFigures, AdvisedFigures}
 use Rattle.rules.specs.Calls.{Planning, moved-to, started, advice-of, advised}
 use Rattle.rules.specs.declared.place.Place.{Place}
@@ -32,7 +33,7 @@ use Rattle.cabinet.proofs.Turns.{at, join, stands-inside, inside-stands
 use Rattle.cabinet.proofs.Callers.{caller-needs}
 use Rattle.cabinet.proofs.Looping.{keeps, told-entry, entry-right, none-refused, meets, Reached, reaches}
 
-module _ {b before after : List ℕ} (done : Planning b before 0 after) where
+module _ {b before after : List ℕ} (done : Planning b before (only 0) after) where
   abbrev G : Arena
   G = arena (said b)
 

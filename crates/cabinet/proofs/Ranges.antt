@@ -1,30 +1,33 @@
--- The numbers that each of the calls for C gives: 0 where it succeeds, those that document 01 names for it, and no other.
-use Prim.Native.Nat.{ℕ, _≤_}
+-- What each of the calls for C gives: 0 where it succeeds, the numbers that documents 01 and 02 name for it, and no other; 12 and 13 alone
+-- name a record.
+use Prim.Native.Nat.{ℕ}
 use mathlib.Core.Bool.{Bool, true, false, cond, not}
 use mathlib.Core.List.{List, [], _∷_, map}
 use mathlib.Core.Logic.{_⊎_, inl, inr}
-use mathlib.Core.Path.{_≡_, refl, sym, ap, subst}
+use mathlib.Core.Path.{_≡_, refl, sym, subst}
 use native.Mathlib.Omega.{arith}
 use lib.Dec.{ltb, eqb}
 use lib.ListN.{length, set, replicate}
 use Rattle.rules.specs.Job.{place, places, entry-number, entered, start, recorded}
-use Rattle.rules.specs.Bytes.{refusal, said}
+use Rattle.rules.specs.Fault.{Fault, only, with-record}
+use Rattle.rules.specs.Bytes.{fault, refusal, said}
 use Rattle.rules.specs.Plan.{entry, room, shaped}
 use Rattle.rules.specs.Calls.{Planning, refused, no-room, overrun, planned, refused-move, moved-to, started, is-place, followed}
 use Rattle.rules.specs.Calls.{refused-advice, advice-of, advised}
 use Rattle.rules.specs.Answers as answers
+use Rattle.rules.specs.Answers.{moved-fault, advised-fault}
 use Rattle.rules.specs.Examples.{plate}
 use Rattle.rules.proofs.Kept.{kept}
-use Rattle.rules.proofs.Numbers.{refusal-range}
+use Rattle.rules.proofs.Numbers.{Among, Told, told}
 use Rattle.rules.proofs.Unique.{no-overrun}
-use Rattle.cabinet.specs.Figures.{figures-moved, figures-advised}
+use Rattle.cabinet.specs.Figures.{figures-planned, figures-moved, figures-advised}
 use Rattle.cabinet.specs.declared.calls.PlannedFigures.{PlannedFigures}
 use Rattle.cabinet.specs.declared.calls.MovedFigures.{MovedFigures}
 use Rattle.cabinet.specs.declared.calls.AdvisedFigures.{AdvisedFigures}
 
--- 0, or what refuses a job's bytes: 1 to 6
+-- 0, or what refuses a job's bytes: 1 to 6, 12 and 13
 abbrev pub OfJob : ℕ → Type 0
-OfJob n = n ≤ 6
+OfJob = Among
 
 -- planning: also 7, and 8 never; following: also 9 and 11; advice: also 7, 9 and 10
 abbrev pub OfPlanning : ℕ → Type 0
@@ -36,84 +39,108 @@ OfFollowing n = OfJob n ⊎ ((n ≡ 9) ⊎ (n ≡ 11))
 abbrev pub OfAdvice : ℕ → Type 0
 OfAdvice n = OfJob n ⊎ ((n ≡ 7) ⊎ ((n ≡ 9) ⊎ (n ≡ 10)))
 
-of-success : OfJob 0
-of-success = omega arith
+-- a number alone that is allowed; what refuses the bytes, where more than that is allowed
+alone : {P : ℕ → Type 0} (n : ℕ) → P n → Told P (only n)
+alone n h = record { among = h; no-record = λ d e. refl }
 
-pub plan-range : {b before after : List ℕ} (r : PlannedFigures) → Planning b before (r .refusal) after → OfPlanning (r .refusal)
+of-bytes : (b : List ℕ) {P : ℕ → Type 0} → ((n : ℕ) → OfJob n → P n) → Told P (fault b)
+of-bytes b wider = record { among = wider _ (told b .among); no-record = told b .no-record }
+
+of-success : OfJob 0
+of-success = inl (omega arith)
+
+pub plan-range : {b before after : List ℕ} (r : PlannedFigures) → Planning b before (figures-planned r) after
+    → Told OfPlanning (figures-planned r)
 plan-range r p = go p
   where
-    go : {b before after : List ℕ} {n : ℕ} → Planning b before n after → OfPlanning n
-    go {b} (refused n) = inl (refusal-range b)
-    go (no-room e l) = inr refl
+    go : {b before after : List ℕ} {f : Fault} → Planning b before f after → Told OfPlanning f
+    go {b} (refused n) = of-bytes b (λ n h. inl h)
+    go (no-room e l) = alone 7 (inr refl)
     go {b} (overrun e l o) = absurd (no-overrun b (kept b .0 e) o)
-    go (planned e l n p) = inl of-success
+    go (planned e l n p) = alone 0 (inl of-success)
 
--- a test that refuses by n, and else the answer y
-past-move : (P : ℕ → Type 0) (x : Bool) (n : ℕ) (y : answers.MovedFigures) → P n → P (y .refusal) → P (cond x (refused-move n) y .refusal)
-past-move P true n y h k = h
-past-move P false n y h k = k
+-- a test that refuses by f, and else the answer y
+past-move : (P : ℕ → Type 0) (x : Bool) (f : Fault) (y : answers.MovedFigures) → Told P f → Told P (moved-fault y)
+    → Told P (moved-fault (cond x (refused-move f) y))
+past-move P true f y h k = h
+past-move P false f y h k = k
 
-past-advice : (P : ℕ → Type 0) (x : Bool) (n : ℕ) (y : answers.AdvisedFigures) → P n → P (y .refusal)
-    → P (cond x (refused-advice n) y .refusal)
-past-advice P true n y h k = h
-past-advice P false n y h k = k
+past-advice : (P : ℕ → Type 0) (x : Bool) (f : Fault) (y : answers.AdvisedFigures) → Told P f → Told P (advised-fault y)
+    → Told P (advised-fault (cond x (refused-advice f) y))
+past-advice P true f y h k = h
+past-advice P false f y h k = k
 
-pub start-range : (b : List ℕ) (r : MovedFigures) → figures-moved r ≡ started b → OfJob (r .refusal)
+pub start-range : (b : List ℕ) (r : MovedFigures) → figures-moved r ≡ started b → Told OfJob (moved-fault (figures-moved r))
 start-range b r e =
-    subst OfJob (sym (ap (λ (f : answers.MovedFigures). f .refusal) e))
-    (past-move OfJob (not (eqb (refusal b) 0)) (refusal b) (moved-to (start (said b))) (refusal-range b) of-success)
+    subst (λ (f : answers.MovedFigures). Told OfJob (moved-fault f)) (sym e)
+    (past-move OfJob (not (eqb (refusal b) 0)) (fault b) (moved-to (start (said b))) (told b) (alone 0 of-success))
 
-pub follow-range : (b : List ℕ) (s q a t : ℕ) (r : MovedFigures) → figures-moved r ≡ followed b s q a t → OfFollowing (r .refusal)
+pub follow-range : (b : List ℕ) (s q a t : ℕ) (r : MovedFigures) → figures-moved r ≡ followed b s q a t
+    → Told OfFollowing (moved-fault (figures-moved r))
 follow-range b s q a t r e =
     let j = said b in
     let to = moved-to (entered j q t) in
-    let known = cond (not (recorded j s a t)) (refused-move 11) to in
-    subst OfFollowing (sym (ap (λ (f : answers.MovedFigures). f .refusal) e))
-    (past-move OfFollowing (not (eqb (refusal b) 0)) (refusal b) (cond (not (is-place j s q)) (refused-move 9) known)
-    (inl (refusal-range b))
-    (past-move OfFollowing (not (is-place j s q)) 9 known (inr (inl refl))
-    (past-move OfFollowing (not (recorded j s a t)) 11 to (inr (inr refl)) (inl of-success))))
+    let known = cond (not (recorded j s a t)) (refused-move (only 11)) to in
+    subst (λ (f : answers.MovedFigures). Told OfFollowing (moved-fault f)) (sym e)
+    (past-move OfFollowing (not (eqb (refusal b) 0)) (fault b) (cond (not (is-place j s q)) (refused-move (only 9)) known)
+    (of-bytes b (λ n h. inl h))
+    (past-move OfFollowing (not (is-place j s q)) (only 9) known (alone 9 (inr (inl refl)))
+    (past-move OfFollowing (not (recorded j s a t)) (only 11) to (alone 11 (inr (inr refl))) (alone 0 (inl of-success)))))
 
-pub advice-range : (b p : List ℕ) (s q : ℕ) (r : AdvisedFigures) → figures-advised r ≡ advised b p s q → OfAdvice (r .refusal)
+pub advice-range : (b p : List ℕ) (s q : ℕ) (r : AdvisedFigures) → figures-advised r ≡ advised b p s q
+    → Told OfAdvice (advised-fault (figures-advised r))
 advice-range b p s q r e =
     let j = said b in
     let x = entry p (entry-number (j .goals) (place s q)) in
     let shape = shaped (j .actions) (places j) x in
-    let known = cond (not shape) (refused-advice 10) (advice-of x) in
-    let at = cond (not (is-place j s q)) (refused-advice 9) known in
-    subst OfAdvice (sym (ap (λ (f : answers.AdvisedFigures). f .refusal) e))
-    (past-advice OfAdvice (not (eqb (refusal b) 0)) (refusal b) (cond (ltb (length p) (room j)) (refused-advice 7) at)
-    (inl (refusal-range b))
-    (past-advice OfAdvice (ltb (length p) (room j)) 7 at (inr (inl refl))
-    (past-advice OfAdvice (not (is-place j s q)) 9 known (inr (inr (inl refl)))
-    (past-advice OfAdvice (not shape) 10 (advice-of x) (inr (inr (inr refl))) (inl of-success)))))
+    let known = cond (not shape) (refused-advice (only 10)) (advice-of x) in
+    let at = cond (not (is-place j s q)) (refused-advice (only 9)) known in
+    subst (λ (f : answers.AdvisedFigures). Told OfAdvice (advised-fault f)) (sym e)
+    (past-advice OfAdvice (not (eqb (refusal b) 0)) (fault b) (cond (ltb (length p) (room j)) (refused-advice (only 7)) at)
+    (of-bytes b (λ n h. inl h))
+    (past-advice OfAdvice (ltb (length p) (room j)) (only 7) at (alone 7 (inr (inl refl)))
+    (past-advice OfAdvice (not (is-place j s q)) (only 9) known (alone 9 (inr (inr (inl refl))))
+    (past-advice OfAdvice (not shape) (only 10) (advice-of x) (alone 10 (inr (inr (inr refl)))) (alone 0 (inl of-success))))))
 
--- ---- and each of them is given: of One plate, and of One plate with one byte changed or none left
+-- ---- and each of them is given: of One plate, and of One plate with one byte changed or none left, or with Moves a byte shorter and Goal
+-- a byte longer
+
+-- record 3 with a field out of range, and record 5 not after record 4
+abbrev field-out : List ℕ
+field-out = set plate 37 4
+
+abbrev order-out : List ℕ
+order-out = set plate 41 1
+
+abbrev not-whole : List ℕ
+not-whole = set (set (set plate 10 17) 12 43) 14 16
 
 abbrev jobs : List (List ℕ)
-jobs = plate ∷ [] ∷ set plate 0 17 ∷ set plate 16 0 ∷ set plate 22 4 ∷ set plate 27 3 ∷ set plate 44 3 ∷ []
+jobs =
+    plate ∷ [] ∷ set plate 0 17 ∷ set plate 16 0 ∷ set plate 22 4 ∷ not-whole ∷ set plate 44 3 ∷ field-out ∷ order-out ∷ []
 
-abbrev of-job : List ℕ
-of-job = 0 ∷ 1 ∷ 2 ∷ 3 ∷ 4 ∷ 5 ∷ 6 ∷ []
+abbrev of-job : List Fault
+of-job =
+    only 0 ∷ only 1 ∷ only 2 ∷ only 3 ∷ only 4 ∷ only 5 ∷ only 6 ∷ with-record 12 3 ∷ with-record 13 5 ∷ []
 
-pub start-given : map (λ (b : List ℕ). started b .refusal) jobs ≡ of-job
+pub start-given : map (λ (b : List ℕ). moved-fault (started b)) jobs ≡ of-job
 start-given = refl
 
-pub follow-given : (map (λ (b : List ℕ). followed b 0 0 0 1 .refusal) jobs ≡ of-job)
-    × (followed plate 4 0 0 1 .refusal ≡ 9)
-    × (followed plate 0 0 0 2 .refusal ≡ 11)
+pub follow-given : (map (λ (b : List ℕ). moved-fault (followed b 0 0 0 1)) jobs ≡ of-job)
+    × (moved-fault (followed plate 4 0 0 1) ≡ only 9)
+    × (moved-fault (followed plate 0 0 0 2) ≡ only 11)
 follow-given = (refl, refl, refl)
 
 -- a plan whose first entry is the one of a losing place, and every other byte 0
 abbrev scribbled : List ℕ
 scribbled = set (replicate 48 0) 1 255
 
-pub advice-given : (map (λ (b : List ℕ). advised b scribbled 0 0 .refusal) jobs ≡ of-job)
-    × (advised plate [] 0 0 .refusal ≡ 7)
-    × (advised plate scribbled 4 0 .refusal ≡ 9)
-    × (advised plate scribbled 0 1 .refusal ≡ 10)
+pub advice-given : (map (λ (b : List ℕ). advised-fault (advised b scribbled 0 0)) jobs ≡ of-job)
+    × (advised-fault (advised plate [] 0 0) ≡ only 7)
+    × (advised-fault (advised plate scribbled 4 0) ≡ only 9)
+    × (advised-fault (advised plate scribbled 0 1) ≡ only 10)
 advice-given = (refl, refl, refl, refl)
 
--- planning refuses the same jobs by the same numbers (`refused`), and gives 7 too
-pub plan-given : Planning plate [] 7 []
-plan-given = no-room refl (omega arith)
+-- planning refuses the same jobs in the same way (`refused`), 12 and 13 among them, and gives 7 too
+pub plan-given : Planning plate [] (only 7) [] × Planning field-out [] (with-record 12 3) [] × Planning order-out [] (with-record 13 5) []
+plan-given = (no-room refl (omega arith), refused (λ e. omega arith), refused (λ e. omega arith))

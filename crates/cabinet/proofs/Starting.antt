@@ -10,7 +10,8 @@ use borrow.Author.Tests.{eq-eqb, eqb-true, eqb-false, not-false, not-true}
 use lib.Dec.{eqb}
 use Rattle.game.specs.Game.{Inside, Listed}
 use Rattle.rules.specs.Job.{Job, place, entered, start, recorded, arena}
-use Rattle.rules.specs.Bytes.{refusal, said}
+use Rattle.rules.specs.Fault.{Fault, only}
+use Rattle.rules.specs.Bytes.{fault, refusal, said}
 use Rattle.rules.specs.Keeps.{Keeps}
 use Rattle.rules.specs.Answers.{MovedFigures}
 use Rattle.rules.specs.declared.place.Place.{Place}
@@ -24,16 +25,16 @@ abbrev pub When : (MovedFigures → Type 0) → MovedFigures → Type 0
 When P f = f .refusal ≡ 0 → P f
 
 -- a test x that refuses by some number, and else an answer of which P holds
-past : (P : MovedFigures → Type 0) (x : Bool) (n : ℕ) (y : MovedFigures) → (x ≡ true → n ≢ 0) → (x ≡ false → When P y)
-    → When P (cond x (refused-move n) y)
-past P true n y some holds e = absurd (some refl e)
-past P false n y some holds e = holds refl e
+past : (P : MovedFigures → Type 0) (x : Bool) (f : Fault) (y : MovedFigures) → (x ≡ true → f .number ≢ 0) → (x ≡ false → When P y)
+    → When P (cond x (refused-move f) y)
+past P true f y some holds e = absurd (some refl e)
+past P false f y some holds e = holds refl e
 
 -- the bytes are judged first
 pub judged : (P : MovedFigures → Type 0) (b : List ℕ) (y : MovedFigures) → (Keeps b → When P y)
-    → When P (cond (not (eqb (refusal b) 0)) (refused-move (refusal b)) y)
+    → When P (cond (not (eqb (refusal b) 0)) (refused-move (fault b)) y)
 judged P b y holds =
-    past P (not (eqb (refusal b) 0)) (refusal b) y
+    past P (not (eqb (refusal b) 0)) (fault b) y
     (λ e. eqb-false (refusal b) 0 (not-true (eqb (refusal b) 0) e))
     (λ e. holds (kept b .0 (eqb-true (refusal b) 0 (not-false (eqb (refusal b) 0) e))))
 
@@ -52,10 +53,10 @@ module _ (b : List ℕ) (s q a t : ℕ) where
   followed-when P holds =
       let j = said b in
       let to = moved-to (entered j q t) in
-      let known = cond (not (recorded j s a t)) (refused-move 11) to in
-      judged P b (cond (not (is-place j s q)) (refused-move 9) known)
-      (λ k. past P (not (is-place j s q)) 9 known (λ _. omega arith)
-      (λ p. past P (not (recorded j s a t)) 11 to (λ _. omega arith)
+      let known = cond (not (recorded j s a t)) (refused-move (only 11)) to in
+      judged P b (cond (not (is-place j s q)) (refused-move (only 9)) known)
+      (λ k. past P (not (is-place j s q)) (only 9) known (λ _. omega arith)
+      (λ p. past P (not (recorded j s a t)) (only 11) to (λ _. omega arith)
       (λ r e. holds k (not-false (is-place j s q) p) (not-false (recorded j s a t) r))))
 
   pub followed-inside : When (Lands (said b)) (followed b s q a t)

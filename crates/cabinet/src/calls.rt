@@ -1,9 +1,9 @@
 // The calls for C, on job bytes, plan bytes and place numbers. Each answers one struct of figures: the refusal first, 0 on success,
-// and on a refusal every other figure 0.
+// and on a refusal every other figure 0, save that 12 and 13 name the bad record.
 ghost use mathlib.Core.Path.{_≡_};
 ghost use Rattle.rules.specs.Calls.{Planning, started, followed, advised};
 ghost use Rattle.rules.specs.Answers.{advised-figures};
-ghost use Rattle.cabinet.specs.Figures.{moved-figures, figures-moved, figures-advised};
+ghost use Rattle.cabinet.specs.Figures.{figures-planned, moved-figures, figures-moved, figures-advised};
 use crate::place::Moved;
 use crate::place::Place;
 use rules::answer::Advised;
@@ -12,6 +12,7 @@ use rules::answer::Planned;
 #[repr(C)]
 pub struct PlannedFigures {
     pub refusal: u32,
+    pub record: u32,
 }
 
 #[repr(C)]
@@ -19,6 +20,7 @@ pub struct MovedFigures {
     pub refusal: u32,
     pub state: u32,
     pub goal: u32,
+    pub record: u32,
 }
 
 #[repr(C)]
@@ -27,6 +29,7 @@ pub struct AdvisedFigures {
     pub value: u32,
     pub action: u32,
     pub number: u32,
+    pub record: u32,
 }
 
 // The figures of an answer that moves a place.
@@ -38,11 +41,13 @@ fn of_moved(r: Moved) -> MovedFigures
             refusal: why.number(),
             state: 0,
             goal: 0,
+            record: why.record(),
         },
         Moved::To(p) => MovedFigures {
             refusal: 0,
             state: p.state,
             goal: p.goal,
+            record: 0,
         },
     }
 }
@@ -57,6 +62,7 @@ fn of_advised(r: Advised) -> AdvisedFigures
             value: 0,
             action: 0,
             number: 0,
+            record: why.record(),
         },
         Advised::Says {
             value,
@@ -67,6 +73,7 @@ fn of_advised(r: Advised) -> AdvisedFigures
             value: value.number() as u32,
             action: action as u32,
             number: number as u32,
+            record: 0,
         },
     }
 }
@@ -74,13 +81,17 @@ fn of_advised(r: Advised) -> AdvisedFigures
 // Plans a job into a buffer.
 #[no_mangle]
 pub extern "C" fn cabinet_plan(job: &[u8], plan: &mut [u8]) -> PlannedFigures
-    ensures { λ r. ⌜ Planning (now (job .entry)) (now (plan .entry)) (r .refusal) (now (plan .exit)) ⌝ }
+    ensures { λ r. ⌜ Planning (now (job .entry)) (now (plan .entry)) (figures-planned r) (now (plan .exit)) ⌝ }
 {
     match labelling::plan::plan(job, plan) {
         Planned::Refused(why) => PlannedFigures {
             refusal: why.number(),
+            record: why.record(),
         },
-        Planned::Done => PlannedFigures { refusal: 0 },
+        Planned::Done => PlannedFigures {
+            refusal: 0,
+            record: 0,
+        },
     }
 }
 

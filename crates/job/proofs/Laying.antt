@@ -11,11 +11,11 @@ use lib.Dec.{leb, ltb, leb·suc-suc, eqb·suc-zero}
 use lib.ListN.{length, getD}
 use lib.Pow.{pow-mono}
 use Rattle.game.specs.Below.{every-below}
-use Rattle.rules.specs.Bytes.{offset, size, record-at, rows, mark, said, contents, good}
+use Rattle.rules.specs.Bytes.{offset, size, record-at, rows, mark, said, contents, record-fault}
 use Rattle.rules.specs.declared.place.Move.{Move}
 use Rattle.game.proofs.Tests.{every-below-ext}
 use Rattle.rules.proofs.Judged.{InRange, contents-iff, range-iff}
-use Rattle.job.specs.Layout.{layout, Laid, in-ranges, good-after}
+use Rattle.job.specs.Layout.{layout, Laid, in-ranges, fault-after}
 use Rattle.job.specs.declared.layout.Layout.{Layout}
 
 -- byte k from a place on lies below the limit
@@ -92,11 +92,11 @@ abbrev pub previous : (ℕ → Move) → ℕ → Move
 previous f zero = record { state = 0; action = 0; outcome = 0 }
 previous f (suc k) = f k
 
--- record k is good after the one before it where it is good among all records
-pub good-is : (b : List ℕ) (l : Layout) → l ≡ layout b → (k : ℕ)
-    → good-after l k (previous (said b .move) k) (record-at b (l .«moves_at» + 3 * k)) ≡ good (said b) k
-good-is b l e zero = rw e
-good-is b l e (suc k) = rw (e, eqb·suc-zero k)
+-- what is wrong with record k after the one before it is what is wrong with it among all records
+pub fault-is : (b : List ℕ) (l : Layout) → l ≡ layout b → (k : ℕ)
+    → fault-after l k (previous (said b .move) k) (record-at b (l .«moves_at» + 3 * k)) ≡ record-fault (said b) k
+fault-is b l e zero = rw e
+fault-is b l e (suc k) = rw (e, eqb·suc-zero k)
 
 -- record k is the one before the next
 pub previous-is : (b : List ℕ) (l : Layout) → l ≡ layout b → (k : ℕ)

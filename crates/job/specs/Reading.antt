@@ -1,13 +1,19 @@
--- What reading answers: document 01's number for each case, and the layout where it is 0.
+-- What judging and reading answer: the number for each case with its record, and the layout where it is 0.
 use Prim.Native.Nat.{ℕ}
 use mathlib.Core.Bool.{cond, not}
 use mathlib.Core.List.{List}
 use lib.Dec.{eqb}
-use Rattle.rules.specs.Bytes.{refusal}
-use Rattle.rules.specs.Answers.{refusal-number}
+use Rattle.rules.specs.Fault.{Fault, only}
+use Rattle.rules.specs.Bytes.{fault, refusal}
+use Rattle.rules.specs.Answers.{refusal-fault}
 use Rattle.job.specs.Layout.{layout}
 use Rattle.job.specs.declared.layout.Layout.{Layout}
 use Rattle.job.specs.declared.layout.Reading.{Reading}
+use Rattle.job.specs.declared.layout.Verdict.{Verdict}
+
+abbrev pub verdict-fault : Verdict → Fault
+verdict-fault Verdict.Good = only 0
+verdict-fault (Verdict.Bad r) = refusal-fault r
 
 -- a layout with every figure 0
 abbrev pub no-layout : Layout
@@ -26,14 +32,14 @@ no-layout =
     }
 
 pub record ReadingFigures : Type 0 where
-  pub refusal : ℕ
+  pub fault : Fault
   pub layout : Layout
 
 abbrev pub reading-figures : Reading → ReadingFigures
-reading-figures (Reading.Job l) = record { refusal = 0; layout = l }
-reading-figures (Reading.Refused r) = record { refusal = refusal-number r; layout = no-layout }
+reading-figures (Reading.Job l) = record { fault = only 0; layout = l }
+reading-figures (Reading.Refused r) = record { fault = refusal-fault r; layout = no-layout }
 
 -- what reading answers of the bytes b
 abbrev pub reading : List ℕ → ReadingFigures
 reading b =
-    cond (not (eqb (refusal b) 0)) (record { refusal = refusal b; layout = no-layout }) (record { refusal = 0; layout = layout b })
+    cond (not (eqb (refusal b) 0)) (record { fault = fault b; layout = no-layout }) (record { fault = only 0; layout = layout b })

@@ -1,12 +1,11 @@
-// Reading a job: each fault of the table from 1 to 6 in its order, one pass over each body.
+// Reading a job: each fault of the table from 1 to 6, 12 and 13 in its order, one pass over each body.
 ghost use mathlib.Core.Path.{_≡_};
 ghost use mathlib.Core.Bool.{true};
 ghost use Prim.Native.Nat.{_≤_};
 ghost use lib.ListN.{length};
-ghost use Rattle.game.specs.Below.{every-below};
-ghost use Rattle.rules.specs.Bytes.{said, contents, labels, within, good, moves, goal};
-ghost use Rattle.job.specs.Layout.{layout, Laid, in-ranges, good-after};
-ghost use Rattle.job.specs.Reading.{reading, reading-figures};
+ghost use Rattle.rules.specs.Bytes.{said, contents, labels, within, whole, records-fault, goal};
+ghost use Rattle.job.specs.Layout.{layout, Laid, in-ranges, fault-after};
+ghost use Rattle.job.specs.Reading.{verdict-fault, reading, reading-figures};
 use crate::body::byte_at;
 use crate::body::bytes_below;
 use crate::body::comes_before;
@@ -16,6 +15,7 @@ use crate::body::record_at;
 use crate::body::word_at;
 use crate::layout::Layout;
 use crate::layout::Reading;
+use crate::layout::Verdict;
 use rules::answer::Refusal;
 use rules::place::Move;
 
@@ -124,23 +124,28 @@ fn fields_fit(l: Layout, m: Move) -> bool
     (m.outcome as usize) < l.states
 }
 
-// Whether record k is good, by its fields and then by its order after the one before it.
-fn record_fits(l: Layout, k: usize, last: Move, m: Move) -> bool
-    ensures { λ r. ⌜ r ≡ good-after l k last m ⌝ }
+// What is wrong with record k: its fields are judged, and then its order after the one before it.
+fn judge_record(l: Layout, k: usize, last: Move, m: Move) -> Verdict
+    requires { ⌜ k ≤ 65535 ⌝ }
+    ensures { λ r. ⌜ verdict-fault r ≡ fault-after l k last m ⌝ }
 {
     if !fields_fit(l, m) {
-        return false;
+        return Verdict::Bad(Refusal::Field(k as u32));
     }
     if k == 0 {
-        return true;
+        return Verdict::Good;
     }
-    comes_before(last, m)
+    if !comes_before(last, m) {
+        return Verdict::Bad(Refusal::Order(k as u32));
+    }
+    Verdict::Good
 }
 
-// Whether every record is good.
-fn records_fit(job: &[u8], l: Layout) -> bool
+// The records are judged from the front, up to the first bad one.
+fn judge_records(job: &[u8], l: Layout) -> Verdict
     requires { ⌜ Laid (now job) l ⌝ }
-    ensures { λ r. ⌜ r ≡ every-below (l .records) (good (said (now (job .entry)))) ⌝ }
+    requires { ⌜ l .records ≤ 65535 ⌝ }
+    ensures { λ r. ⌜ verdict-fault r ≡ records-fault (said (now (job .entry))) (l .records) ⌝ }
 {
     let n = l.records;
     let at = l.moves_at;
@@ -152,28 +157,27 @@ fn records_fit(job: &[u8], l: Layout) -> bool
     let mut k: usize = 0;
     while k < n {
         let m = record_at(job, at + 3 * k);
-        if !record_fits(l, k, last, m) {
-            return false;
+        match judge_record(l, k, last, m) {
+            Verdict::Bad(why) => return Verdict::Bad(why),
+            Verdict::Good => {
+                last = m;
+                k += 1;
+            }
         }
-        last = m;
-        k += 1;
     }
-    true
+    Verdict::Good
 }
 
-// Whether Moves has whole records, not too many, and each is good.
-fn moves_fit(job: &[u8], l: Layout) -> bool
+// Whether Moves has whole records, and not too many.
+fn moves_whole(job: &[u8], l: Layout) -> bool
     requires { ⌜ Laid (now job) l ⌝ }
-    ensures { λ r. ⌜ r ≡ moves (now (job .entry)) ⌝ }
+    ensures { λ r. ⌜ r ≡ whole (now (job .entry)) ⌝ }
 {
     let size = l.goal_at - l.moves_at;
     if size % 3 != 0 {
         return false;
     }
-    if 12288 < size {
-        return false;
-    }
-    records_fit(job, l)
+    size <= 12288
 }
 
 // Whether Goal has its length, each next goal state is one, and each mark is 0 or 1.
@@ -209,11 +213,16 @@ pub fn read(job: &[u8]) -> Reading
     if !labels_fit(job, l) {
         return Reading::Refused(Refusal::Labels);
     }
-    if !moves_fit(job, l) {
+    if !moves_whole(job, l) {
         return Reading::Refused(Refusal::Moves);
     }
-    if !goal_fits(job, l) {
-        return Reading::Refused(Refusal::Goal);
+    match judge_records(job, l) {
+        Verdict::Bad(why) => Reading::Refused(why),
+        Verdict::Good => {
+            if !goal_fits(job, l) {
+                return Reading::Refused(Refusal::Goal);
+            }
+            Reading::Job(l)
+        }
     }
-    Reading::Job(l)
 }

@@ -1,4 +1,4 @@
-// Where a job's bodies lie and what its counts are, and the answer of reading one.
+// Where a job's bodies lie and what its counts are, and the answers of judging its records and of reading it.
 use rules::answer::Refusal;
 
 pub struct Layout {
@@ -12,6 +12,12 @@ pub struct Layout {
     pub labels_at: usize,
     pub moves_at: usize,
     pub goal_at: usize,
+}
+
+// What judging records answers: all are good, or what is wrong with the first bad one.
+pub enum Verdict {
+    Good,
+    Bad(Refusal),
 }
 
 // What reading answers.

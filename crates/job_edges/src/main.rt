@@ -5,48 +5,58 @@ mod said;
 
 use job::layout::Reading;
 use made::make;
+use rules::answer::Refusal;
 ghost use Prim.Native.Nat.{_<_, _≤_};
 ghost use lib.ListN.{length};
 
-// The answer to a line that says no job: it is written, so that no case is lost unseen.
-const BAD_LINE: u32 = 7;
+// The answer to a line. One that says no job is told as well, so that no case is lost unseen.
+enum Answer {
+    Read,
+    Refused(Refusal),
+    BadLine,
+}
 
 fn write(text: &[u8]) {
     io::write_all(libc::STDOUT_FILENO, text);
 }
 
-fn say(answer: u32) {
-    if answer == 0 {
-        write(b" read\n");
-        return;
-    }
-    if answer == BAD_LINE {
-        write(b" bad line\n");
-        return;
-    }
+// The number, and after 12 and 13 the record.
+fn say_refused(why: Refusal) {
+    let number = why.number();
     write(b" refused ");
-    io::print_decimal(libc::STDOUT_FILENO, answer as u64);
+    io::print_decimal(libc::STDOUT_FILENO, number as u64);
+    if number > 11 {
+        write(b" ");
+        io::print_decimal(libc::STDOUT_FILENO, why.record() as u64);
+    }
     write(b"\n");
 }
 
-// 0 where the job is read, or the number of the fault.
-fn answer(job: &[u8]) -> u32 {
-    let Reading::Refused(why) = job::accept::read(job) else {
-        return 0;
-    };
-    why.number()
+fn say(answer: Answer) {
+    match answer {
+        Answer::Read => write(b" read\n"),
+        Answer::Refused(why) => say_refused(why),
+        Answer::BadLine => write(b" bad line\n"),
+    }
 }
 
-fn answer_to(words: &[u8]) -> u32 {
+fn read_job(job: &[u8]) -> Answer {
+    match job::accept::read(job) {
+        Reading::Refused(why) => Answer::Refused(why),
+        Reading::Job(_) => Answer::Read,
+    }
+}
+
+fn answer_to(words: &[u8]) -> Answer {
     if words.len() == 0 {
-        return BAD_LINE;
+        return Answer::BadLine;
     }
     let mut job = [0u8; 16384];
     let n = make(&mut job, words);
     if n > 16384 {
-        return BAD_LINE;
+        return Answer::BadLine;
     }
-    answer(&job[0..n])
+    read_job(&job[0..n])
 }
 
 // Past the next such byte, or the text's end.
@@ -95,6 +105,6 @@ fn main() {
     let n = io::read_full(libc::STDIN_FILENO, &mut text);
     lines(&text[..n]);
     if n == 8192 {
-        say(BAD_LINE);
+        say(Answer::BadLine);
     }
 }

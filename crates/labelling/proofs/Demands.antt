@@ -5,6 +5,7 @@ use mathlib.Core.Path.{_≡_, refl}
 use native.Mathlib.Omega.{arith}
 use Rattle.game.specs.Game.{Play, last, Inside, Way, run, Obeys, Follows}
 use Rattle.rules.specs.Job.{arena}
+use Rattle.rules.specs.Fault.{only}
 use Rattle.rules.specs.Bytes.{said}
 use Rattle.rules.specs.Keeps.{Keeps}
 use Rattle.rules.specs.Calls.{Planning}
@@ -16,7 +17,7 @@ use Rattle.game.proofs.Hopes.{run-inside}
 use Rattle.game.proofs.Following.{follow, follow-follows, follows-on}
 use Rattle.game.proofs.Demands.{value-told, winning-kept, pending-kept}
 
-module _ {b before after : List ℕ} (done : Planning b before 0 after) where
+module _ {b before after : List ℕ} (done : Planning b before (only 0) after) where
   keeps : Keeps b
   keeps = planned-exactly done .0 refl .0
 

@@ -8,6 +8,7 @@ use lib.Arith.{digits-lt}
 use lib.ListN.{length, getD, take, drop, replicate, length-drop, take-append-drop}
 use lib.Seq.{ext-getD, getD-take, getD-drop, length-take-le}
 use Rattle.rules.specs.Job.{places}
+use Rattle.rules.specs.Fault.{only}
 use Rattle.rules.specs.Bytes.{said}
 use Rattle.rules.specs.Keeps.{Keeps}
 use Rattle.rules.specs.Plan.{entry, room, Plan}
@@ -52,10 +53,10 @@ module _ {b before plan : List ℕ} (k : Keeps b) (fits : room (said b) ≤ leng
       }
 
   -- labelling is not over: the plan is there
-  pub planned-done : over ≡ false → ((y : ℕ) → getD plan y 0 < 256) → Planning b before 0 plan
+  pub planned-done : over ≡ false → ((y : ℕ) → getD plan y 0 < 256) → Planning b before (only 0) plan
   planned-done o small =
-      subst (Planning b before 0) (ap (λ (r : List ℕ). part ++ r) (sym same-rest) ∙ take-append-drop (room (said b)) plan)
+      subst (Planning b before (only 0)) (ap (λ (r : List ℕ). part ++ r) (sym same-rest) ∙ take-append-drop (room (said b)) plan)
       (planned (kept b .1 k) fits (no-overrun b k) (is-plan o small))
 
-  pub planned-over : over ≡ true → Planning b before 8 (replicate (room (said b)) 0 ++ drop (room (said b)) plan)
+  pub planned-over : over ≡ true → Planning b before (only 8) (replicate (room (said b)) 0 ++ drop (room (said b)) plan)
   planned-over o = rw same-rest (overrun (kept b .1 k) fits (l .overrun o))

@@ -4,7 +4,7 @@ ghost use mathlib.Core.List.{_++_};
 ghost use Prim.Native.Nat.{_≤_};
 ghost use lib.ListN.{length, drop, replicate};
 ghost use Rattle.rules.specs.Calls.{Planning};
-ghost use Rattle.rules.specs.Answers.{planned-figure};
+ghost use Rattle.rules.specs.Answers.{planned-fault};
 ghost use Rattle.job.specs.Layout.{Fit};
 use job::layout::Layout;
 use job::layout::Reading;
@@ -26,7 +26,7 @@ fn clear(plan: &mut [u8], n: usize)
 // Plans a job that was read.
 fn plan_read(plan: &mut [u8], job: &[u8], l: Layout) -> Planned
     requires { ⌜ Fit (now job) l ⌝ }
-    ensures { λ r. ⌜ Planning (now (job .entry)) (now (plan .entry)) (planned-figure r) (now (plan .exit)) ⌝ }
+    ensures { λ r. ⌜ Planning (now (job .entry)) (now (plan .entry)) (planned-fault r) (now (plan .exit)) ⌝ }
 {
     let room = 4 * (l.states * l.goals);
     if plan.len() < room {
@@ -41,7 +41,7 @@ fn plan_read(plan: &mut [u8], job: &[u8], l: Layout) -> Planned
 
 // Plans the job into the buffer, or says no and leaves it as it was.
 pub fn plan(job: &[u8], plan: &mut [u8]) -> Planned
-    ensures { λ r. ⌜ Planning (now (job .entry)) (now (plan .entry)) (planned-figure r) (now (plan .exit)) ⌝ }
+    ensures { λ r. ⌜ Planning (now (job .entry)) (now (plan .entry)) (planned-fault r) (now (plan .exit)) ⌝ }
 {
     match job::accept::read(job) {
         Reading::Refused(r) => Planned::Refused(r),

@@ -1,8 +1,8 @@
 -- No text that is to be printed is longer than 94,229 bytes: the first line has at most 21, each of 4,096 others at most 23.
 use Prim.Native.Nat.{ℕ, zero, suc, _+_, _*_, _≤_, _<_}
-use mathlib.Core.Bool.{true}
-use mathlib.Core.List.{List, [], _∷_, _++_}
-use mathlib.Core.Logic.{_↔_, ⊎-elim}
+use mathlib.Core.Bool.{Bool, true, false, cond}
+use mathlib.Core.List.{List, [], _∷_, _++_, map}
+use mathlib.Core.Logic.{_↔_, inl, inr, ⊎-elim}
 use mathlib.Core.Path.{_≡_, refl, sym, ap, subst⁻¹, _∙_}
 use native.Mathlib.Nat.{mul-le-mul, suc-mul, le-refl, le-trans}
 use native.Mathlib.Omega.{arith}
@@ -13,17 +13,18 @@ use Rattle.io.specs.Counts.{Counts}
 use Rattle.game.specs.Game.{Inside}
 use Rattle.game.specs.Below.{upto, each}
 use Rattle.rules.specs.Job.{place, places, start, arena}
-use Rattle.rules.specs.Bytes.{said}
+use Rattle.rules.specs.Fault.{Fault, only}
+use Rattle.rules.specs.Bytes.{fault, refusal, said}
 use Rattle.rules.specs.Plan.{blank, due, shaped}
 use Rattle.rules.specs.Calls.{Planning, refused, no-room, overrun, planned}
 use Rattle.game.specs.declared.entry.Entry.{Entry}
 use Rattle.rules.specs.declared.place.Place.{Place}
 use Rattle.game.proofs.Tests.{and-iff, or-iff, ltb-iff, leb-iff, eqb-iff}
-use Rattle.rules.proofs.Numbers.{refusal-range}
+use Rattle.rules.proofs.Numbers.{named-few, Among, told}
 use Rattle.rules.proofs.Arenas.{inside-iff, start-inside}
 use Rattle.rules.proofs.Planned.{planned-right}
 use Rattle.cabinet.proofs.Advising.{right-shaped}
-use Rattle.text.specs.Lines.{decimal, value-word, action-word, entry-line, start-line, refusal-line}
+use Rattle.text.specs.Lines.{decimal, bytes, value-word, action-word, line-of, entry-line, start-line, names-record, refusal-line}
 use Rattle.text.proofs.Digits.{decimal-length}
 use Rattle.text.proofs.Putting.{put-whole}
 use Rattle.listing.specs.Listing.{planned-entry, first-line, place-line, lines, Prints, refuses, lists}
@@ -81,8 +82,13 @@ short-start : (s q v : ℕ) → s < 128 → q < 32 → length (start-line s q v)
 short-start s q v hs hq =
     simp length-append (omega (arith, decimal-length s 2 (omega arith), decimal-length q 1 (omega arith), short-value v))
 
-short-refusal : (r : ℕ) → r < 1000 → length (refusal-line (r ∷ [])) ≤ 12
-short-refusal r h = simp length-append (omega (arith, decimal-length r 2 (omega arith)))
+short-refusal : (f : Fault) → f .number < 100 → f .«record» < 10000 → length (refusal-line f) ≤ 17
+short-refusal f h k = go (names-record f)
+  where
+    go : (x : Bool) → length (line-of (bytes "refused") (map decimal (f .number ∷ cond x (f .«record» ∷ []) []))) ≤ 17
+    go true =
+        simp length-append (omega (arith, decimal-length (f .number) 1 (omega arith), decimal-length (f .«record») 3 (omega arith)))
+    go false = simp length-append (omega (arith, decimal-length (f .number) 1 (omega arith)))
 
 short-each : (f : ℕ → List ℕ) (k n : ℕ) → ((i : ℕ) → i < n → length (f i) ≤ k) → length (each (upto n) f) ≤ n * k
 short-each f k zero h = omega arith
@@ -91,7 +97,7 @@ short-each f k (suc n) h =
     ap length (each-last f (upto n) n) ∙ length-append (each (upto n) f) (f n) in
     omega (arith, last, suc-mul n k, short-each f k n (λ i l. h i (omega arith)), h n (omega arith))
 
-module _ {b before after : List ℕ} (done : Planning b before 0 after) where
+module _ {b before after : List ℕ} (done : Planning b before (only 0) after) where
   entry-few : (x : Place) → Inside (arena (said b)) x → Few (planned-entry (said b) after x)
   entry-few x i =
       let k = keeps done in
@@ -120,14 +126,21 @@ module _ {b before after : List ℕ} (done : Planning b before 0 after) where
       let (hs, hq) = inside-iff (said b) x .0 (start-inside b k) in
       short-start (x .state) (x .goal) (planned-entry (said b) after x .value) (omega (arith, k .few-states)) (omega (arith, k .few-goals))
 
-refusal-few : {b before after : List ℕ} {r : ℕ} → Planning b before r after → r < 1000
-refusal-few {b} (refused n) = omega (arith, refusal-range b)
-refusal-few (no-room e l) = omega arith
-refusal-few (overrun e l o) = omega arith
-refusal-few (planned e l n p) = omega arith
+fault-few : (b : List ℕ) → Among (refusal b) → (refusal b < 100) × (fault b .«record» < 10000)
+fault-few b (inl h) = (
+  omega arith,
+  omega (arith, told b .no-record (λ (e : refusal b ≡ 12). omega arith) (λ (e : refusal b ≡ 13). omega arith)),
+)
+fault-few b (inr e) = (⊎-elim (λ (x : refusal b ≡ 12). omega arith) (λ (x : refusal b ≡ 13). omega arith) e, omega (arith, named-few b e))
+
+refusal-few : {b before after : List ℕ} {f : Fault} → Planning b before f after → (f .number < 100) × (f .«record» < 10000)
+refusal-few {b} (refused n) = fault-few b (told b .among)
+refusal-few (no-room e l) = (omega arith, omega arith)
+refusal-few (overrun e l o) = (omega arith, omega arith)
+refusal-few (planned e l n p) = (omega arith, omega arith)
 
 pub prints-short : {b before text : List ℕ} → Prints b before text → length text ≤ 94229
-prints-short (refuses {r} p z) = omega (arith, short-refusal r (refusal-few p))
+prints-short (refuses {f} p z) = let (n, k) = refusal-few p in omega (arith, short-refusal f n k)
 prints-short {b} (lists {after} done) =
     rw (length-append (first-line (said b) after) (lines (place-line (said b) after) (said b .states) (said b .goals)))
     (omega (arith, short-first done, short-lines done))

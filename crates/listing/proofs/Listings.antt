@@ -1,14 +1,15 @@
 -- What is put together from the calls' answers about a plan just made is the listing of that plan.
 use Prim.Native.Nat.{ℕ, _<_}
 use mathlib.Core.Bool.{true}
-use mathlib.Core.List.{List, [], _∷_, _++_}
+use mathlib.Core.List.{List, _++_}
 use mathlib.Core.Path.{_≡_, refl, sym, ap, _∙_}
 use native.Mathlib.Omega.{arith}
 use borrow.Author.Tests.{eq-eqb, lt-ltb}
 use Rattle.rules.specs.Job.{start}
+use Rattle.rules.specs.Fault.{only}
 use Rattle.rules.specs.Bytes.{refusal, said}
 use Rattle.rules.specs.Keeps.{Keeps}
-use Rattle.rules.specs.Answers.{refusal-number, planned-figure}
+use Rattle.rules.specs.Answers.{refusal-fault, planned-fault}
 use Rattle.rules.specs.Calls.{Planning, moved-to, started, is-place}
 use Rattle.rules.specs.declared.answer.Planned.{Planned}
 use Rattle.rules.specs.declared.answer.Refusal.{Refusal}
@@ -29,7 +30,7 @@ use Rattle.listing.specs.Listing.{first-line, place-line, lines, listing
 use Rattle.listing.specs.Told.{advice-line, value-line, moved-line, advised-line, started-line, Printed}
 use Rattle.listing.proofs.Telling.{lines-same}
 
-module _ {b before after : List ℕ} (done : Planning b before 0 after) where
+module _ {b before after : List ℕ} (done : Planning b before (only 0) after) where
   pub keeps : Keeps b
   keeps = planned-exactly done .0 refl .0
 
@@ -57,13 +58,13 @@ module _ {b before after : List ℕ} (done : Planning b before 0 after) where
 
 -- ---- what is left in the buffer, by what planning answered, x, and what reading answered, y
 
-module _ {b before after out left : List ℕ} {n : ℕ} {x : Planned} (plans : Planning b before (planned-figure x) after) where
-  pub printed-refusal : {why : Refusal} → x ≡ Planned.Refused why → PutText out 0 (refusal-line (refusal-number why ∷ [])) left n
+module _ {b before after out left : List ℕ} {n : ℕ} {x : Planned} (plans : Planning b before (planned-fault x) after) where
+  pub printed-refusal : {why : Refusal} → x ≡ Planned.Refused why → PutText out 0 (refusal-line (refusal-fault why)) left n
       → Printed b before out left n
   printed-refusal {why} e put =
-      let p : Planning b before (refusal-number why) after = rw e at plans in
+      let p : Planning b before (refusal-fault why) after = rw e at plans in
       record {
-        text = refusal-line (refusal-number why ∷ []);
+        text = refusal-line (refusal-fault why);
         right = refuses p (λ z. omega (arith, refusal-some why .1));
         put = put;
       }
@@ -72,13 +73,13 @@ module _ {b before after out left : List ℕ} {n : ℕ} {x : Planned} (plans : P
   pub read-planned : x ≡ Planned.Done → {y : Reading} {why : Refusal} → y ≡ Reading.Refused why → reading-figures y ≡ reading b
       → Printed b before out left n
   read-planned e {why = why} i r =
-      let done : Planning b before 0 after = rw e at plans in
+      let done : Planning b before (only 0) after = rw e at plans in
       absurd (read-refused-some b why (ap reading-figures (sym i) ∙ r) (kept b .1 (keeps done)))
 
   pub printed-listing : x ≡ Planned.Done → {y : Reading} {l : Layout} → y ≡ Reading.Job l → reading-figures y ≡ reading b
       → PutText out 0 (started-line b after ++ lines (advised-line b after) (l .states) (l .goals)) left n → Printed b before out left n
   printed-listing e {l = l} i r put =
-      let done : Planning b before 0 after = rw e at plans in
+      let done : Planning b before (only 0) after = rw e at plans in
       let f = was-read b i r in
       record {
         text = listing (said b) after;

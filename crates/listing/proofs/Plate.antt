@@ -1,10 +1,12 @@
--- What is printed of One plate is document 01's text, line for line.
+-- What is printed of One plate is document 01's text, line for line; and what is printed of it where a record is bad.
 use Prim.Native.Nat.{ℕ, _≤_, _<_}
 use mathlib.Core.List.{List, _++_}
 use mathlib.Core.Path.{_≡_, refl, ap, _∙_}
-use lib.ListN.{length}
+use native.Mathlib.Omega.{arith}
+use lib.ListN.{length, set}
 use Rattle.game.specs.Game.{Inside}
 use Rattle.rules.specs.Job.{place, start, arena}
+use Rattle.rules.specs.Fault.{only}
 use Rattle.rules.specs.Bytes.{said}
 use Rattle.rules.specs.Keeps.{Keeps}
 use Rattle.rules.specs.Calls.{Planning}
@@ -22,6 +24,7 @@ use Rattle.text.specs.Lines.{decimal-in, decimal, bytes, entry-line, start-line
 use Rattle.listing.specs.Listing.{planned-entry, place-line, lines, listing, Prints, refuses, lists}
 use Rattle.listing.proofs.Telling.{lines-same}
 use Rattle.listing.proofs.Listings.{keeps}
+use Rattle.listing.proofs.Printing.{prints-refusal}
 
 -- the same text, by the entries that the rounds give
 entry-text : ℕ → ℕ → Entry → List ℕ
@@ -35,7 +38,7 @@ rounds-listing b =
     start-line (start (said b) .state) (start (said b) .goal) (by-rounds (arena (said b)) (start (said b)) .value)
     ++ lines (rounds-line b) (said b .states) (said b .goals)
 
-module _ {b before after : List ℕ} (done : Planning b before 0 after) where
+module _ {b before after : List ℕ} (done : Planning b before (only 0) after) where
   entry-by-rounds : (x : Place) → Inside (arena (said b)) x → planned-entry (said b) after x ≡ by-rounds (arena (said b)) x
   entry-by-rounds x i =
       right-iff (arena (said b)) (arena-lawful b (keeps done)) x i (planned-entry (said b) after x) .0 (planned-right done refl x i)
@@ -78,3 +81,12 @@ plate-keeps = kept plate .0 refl
 pub plate-prints : {before text : List ℕ} → 48 ≤ length before → Prints plate before text → text ≡ plate-text
 plate-prints room (refuses p z) = absurd (z (planned-exactly p .1 (plate-keeps, room)))
 plate-prints room (lists d) = listing-by-rounds d ∙ plate-computed
+
+-- An outcome of record 3 out of range, and record 5 the same as record 4.
+pub field-prints : {before text : List ℕ} → Prints (set plate 37 4) before text → text ≡ bytes "refused 12 3\n"
+unfolding decimal-in decimal
+field-prints p = prints-refusal (λ e. omega arith) p
+
+pub order-prints : {before text : List ℕ} → Prints (set plate 41 1) before text → text ≡ bytes "refused 13 5\n"
+unfolding decimal-in decimal
+order-prints p = prints-refusal (λ e. omega arith) p

@@ -6,7 +6,7 @@ use native.Mathlib.Numerals.{add-one}
 use native.Mathlib.Omega.{arith}
 use lib.Dec.{eqb·suc-zero}
 use Rattle.game.specs.Below.{upto, each}
-use Rattle.rules.specs.Answers.{refusal-number, advised-figures}
+use Rattle.rules.specs.Answers.{refusal-fault, advised-figures}
 use Rattle.rules.specs.declared.answer.Advised.{Advised}
 use Rattle.rules.specs.declared.answer.Refusal.{Refusal}
 use Rattle.rules.specs.Calls.{advised}
@@ -27,24 +27,24 @@ told figures text {l} {m} {at} {n} e is same put =
     subst (λ (w : List ℕ). PutText l at w m n) (sym same ∙ sym (ap (λ z. text (figures z)) e) ∙ ap text is) put
 
 pub told-refused : {X F : Type 0} (figures : X → F) (text : F → List ℕ) (refuse : Refusal → X)
-    → ((r : Refusal) → text (figures (refuse r)) ≡ refusal-line (refusal-number r ∷ []))
+    → ((r : Refusal) → text (figures (refuse r)) ≡ refusal-line (refusal-fault r))
     → {l m : List ℕ} {at n : ℕ} {x : X} {r : Refusal} {f : F} → x ≡ refuse r → figures x ≡ f
-    → PutText l at (refusal-line (refusal-number r ∷ [])) m n → PutText l at (text f) m n
+    → PutText l at (refusal-line (refusal-fault r)) m n → PutText l at (text f) m n
 told-refused figures text refuse same {r = r} e is put = told figures text e is (same r) put
 
 -- a refusal's number is not 0, so its line is the text
-refused-line : (r : Refusal) (t : List ℕ) → or-refused (refusal-number r) t ≡ refusal-line (refusal-number r ∷ [])
+refused-line : (r : Refusal) (t : List ℕ) → or-refused (refusal-fault r) t ≡ refusal-line (refusal-fault r)
 refused-line r t = rw (refusal-some r .1, eqb·suc-zero (refusal-some r .0))
 
-pub advice-refused : (s q : ℕ) (r : Refusal) → advice-line s q (advised-figures (Advised.Refused r)) ≡ refusal-line (refusal-number r ∷ [])
+pub advice-refused : (s q : ℕ) (r : Refusal) → advice-line s q (advised-figures (Advised.Refused r)) ≡ refusal-line (refusal-fault r)
 unfolding advice-line
 advice-refused s q r = refused-line r _
 
-pub value-refused : (s q : ℕ) (r : Refusal) → value-line s q (advised-figures (Advised.Refused r)) ≡ refusal-line (refusal-number r ∷ [])
+pub value-refused : (s q : ℕ) (r : Refusal) → value-line s q (advised-figures (Advised.Refused r)) ≡ refusal-line (refusal-fault r)
 unfolding value-line
 value-refused s q r = refused-line r _
 
-pub moved-refused : (b p : List ℕ) (r : Refusal) → moved-line b p (moved-figures (Moved.Refused r)) ≡ refusal-line (refusal-number r ∷ [])
+pub moved-refused : (b p : List ℕ) (r : Refusal) → moved-line b p (moved-figures (Moved.Refused r)) ≡ refusal-line (refusal-fault r)
 unfolding moved-line
 moved-refused b p r = refused-line r _
 

@@ -1,9 +1,10 @@
--- What the listing prints, as one text: document 01, "One plate, whole".
+-- What the listing prints, as one text: document 01, "One plate, whole", and document 02's record after a refusal's number.
 use Prim.Native.Nat.{ℕ}
-use mathlib.Core.List.{List, [], _∷_, _++_}
+use mathlib.Core.List.{List, _++_}
 use mathlib.Core.Path.{_≡_}
 use Rattle.game.specs.Below.{upto, each}
 use Rattle.rules.specs.Job.{Job, place, entry-number, start}
+use Rattle.rules.specs.Fault.{Fault, only}
 use Rattle.rules.specs.Bytes.{said}
 use Rattle.rules.specs.Plan.{entry}
 use Rattle.rules.specs.Calls.{Planning}
@@ -34,5 +35,5 @@ listing j p = first-line j p ++ lines (place-line j p) (j .states) (j .goals)
 
 -- `Prints b before text`: the text is printed of the job b, planned into a buffer that holds `before`: on a refusal its line only.
 pub data Prints (b before : List ℕ) : List ℕ → Type 0 where
-  refuses : {r : ℕ} {after : List ℕ} → Planning b before r after → (r ≡ 0 → ⊥) → Prints b before (refusal-line (r ∷ []))
-  lists : {after : List ℕ} → Planning b before 0 after → Prints b before (listing (said b) after)
+  refuses : {f : Fault} {after : List ℕ} → Planning b before f after → (f .number ≡ 0 → ⊥) → Prints b before (refusal-line f)
+  lists : {after : List ℕ} → Planning b before (only 0) after → Prints b before (listing (said b) after)

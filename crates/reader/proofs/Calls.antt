@@ -7,11 +7,11 @@ use native.Mathlib.Nat.{eq-or-lt-of-le}
 use native.Mathlib.Omega.{arith}
 use denote.Ref.{RefT, now}
 use Rattle.game.specs.Below.{upto}
-use Rattle.rules.specs.Bytes.{refusal, said}
+use Rattle.rules.specs.Bytes.{fault, refusal, said}
 use Rattle.rules.specs.Examples.{plate}
 use Rattle.sets.proofs.Bits.{below-or}
-use Rattle.rules.proofs.Numbers.{refusal-range}
-use Rattle.reader.specs.Handed.{moves-in, handed, cursor, opened, hands, after}
+use Rattle.rules.proofs.Numbers.{Among, told}
+use Rattle.reader.specs.Handed.{moves-in, handed, cursor, answered, opened, hands, after}
 use Rattle.reader.specs.declared.Handed.{Handed}
 use Rattle.reader.specs.declared.MoveReader.{MoveReader}
 use Rattle.reader.proofs.Handing.{moves-of-job, moves-of-refused, hands-record, hands-no-more, moves-on, stays}
@@ -27,18 +27,21 @@ module _ (s : RefT (List ℕ)) where
   abbrev call : ℕ → Handed
   call k = hands (reader k)
 
-  -- ---- opening gives 0, or 1 to 6, and the calls change nothing but the cursor
+  -- ---- opening gives 0, or 1 to 6, 12 and 13, these two alone with a record, and the calls change nothing but the cursor
 
-  pub opening-range : opened s .refusal ≤ 6
-  opening-range = refusal-range b
+  pub opening-range : Among (opened s .answer .refusal)
+  opening-range = told b .among
+
+  pub opening-record : refusal b ≢ 12 → refusal b ≢ 13 → opened s .answer .«record» ≡ 0
+  opening-record = told b .no-record
 
   pub same-job : (k : ℕ) → reader k .job ≡ s
   same-job zero = refl
   same-job (suc k) = same-job k
 
-  pub same-refusal : (k : ℕ) → reader k .refusal ≡ refusal b
-  same-refusal zero = refl
-  same-refusal (suc k) = same-refusal k
+  pub same-answer : (k : ℕ) → reader k .answer ≡ answered (fault b)
+  same-answer zero = refl
+  same-answer (suc k) = same-answer k
 
   -- ---- the cursor counts the calls up to the number of moves, and stays there
 

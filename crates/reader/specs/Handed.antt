@@ -4,7 +4,9 @@ use mathlib.Core.Bool.{cond}
 use mathlib.Core.List.{List}
 use lib.Dec.{eqb, ltb}
 use denote.Ref.{RefT, now}
-use Rattle.rules.specs.Bytes.{refusal, said}
+use Rattle.rules.specs.Fault.{Fault}
+use Rattle.rules.specs.Bytes.{fault, refusal, said}
+use Rattle.reader.specs.declared.Answer.{Answer}
 use Rattle.reader.specs.declared.Handed.{Handed}
 use Rattle.reader.specs.declared.MoveReader.{MoveReader}
 
@@ -20,16 +22,20 @@ handed b k = cond (ltb k (moves-in b)) (Handed.Record (said b .move k)) Handed.N
 abbrev pub cursor : List ℕ → ℕ → ℕ
 cursor b k = cond (ltb k (moves-in b)) (k + 1) k
 
--- the reader that opening gives: at the first move, with the number that refuses the job, or 0
+-- the figures of what opening answers
+abbrev pub answered : Fault → Answer
+answered f = record { refusal = f .number; «record» = f .«record» }
+
+-- the reader that opening gives: at the first move, with what refuses the job
 abbrev pub opened : RefT (List ℕ) → MoveReader
-opened s = record { job = s; refusal = refusal (now s); at = 0 }
+opened s = record { job = s; answer = answered (fault (now s)); at = 0 }
 
 -- what a reader hands out, and the reader afterwards, which holds the same job
 abbrev pub hands : MoveReader → Handed
 hands r = handed (now (r .job)) (r .at)
 
 abbrev pub moved : MoveReader → MoveReader
-moved r = record { job = r .job; refusal = r .refusal; at = cursor (now (r .job)) (r .at) }
+moved r = record { job = r .job; answer = r .answer; at = cursor (now (r .job)) (r .at) }
 
 -- the reader after k calls
 abbrev pub after : ℕ → MoveReader → MoveReader

@@ -1,8 +1,8 @@
 // The reader of moves: it holds the lent job and a cursor, and hands out one move at a time. The work is done on the slice
 // and the number by functions that the borrow checker covers; those over the struct are thin, and proved by hand.
 ghost use mathlib.Core.Path.{_≡_};
-ghost use Rattle.rules.specs.Bytes.{refusal};
-ghost use Rattle.reader.specs.Handed.{handed, cursor, opened, hands, moved};
+ghost use Rattle.rules.specs.Bytes.{fault};
+ghost use Rattle.reader.specs.Handed.{answered, handed, cursor, opened, hands, moved};
 use job::layout::Reading;
 use rules::place::Move;
 
@@ -12,19 +12,31 @@ pub enum Handed {
     NoMore,
 }
 
+// What opening answers: the number that refuses the job, or 0, and with 12 and 13 the bad record.
+pub struct Answer {
+    pub refusal: u32,
+    pub record: u32,
+}
+
 pub struct MoveReader<'a> {
     pub job: &'a [u8],
-    pub refusal: u32,
+    pub answer: Answer,
     pub at: usize,
 }
 
-// The number that refuses the job, or 0.
-pub fn opening(job: &[u8]) -> u32
-    ensures { λ r. ⌜ r ≡ refusal (now (job .entry)) ⌝ }
+// Judges the job.
+pub fn opening(job: &[u8]) -> Answer
+    ensures { λ r. ⌜ r ≡ answered (fault (now (job .entry))) ⌝ }
 {
     match job::accept::read(job) {
-        Reading::Refused(why) => why.number(),
-        Reading::Job(_) => 0,
+        Reading::Refused(why) => Answer {
+            refusal: why.number(),
+            record: why.record(),
+        },
+        Reading::Job(_) => Answer {
+            refusal: 0,
+            record: 0,
+        },
     }
 }
 
@@ -58,13 +70,13 @@ pub fn next_at(job: &[u8], at: usize) -> usize
     }
 }
 
-// Opens the reader at the first move. The number that refuses the job, or 0, stands in it.
+// Opens the reader at the first move. What refuses the job stands in it.
 pub fn open_moves<'a>(job: &'a [u8]) -> MoveReader<'a>
     ensures { λ r. ⌜ r ≡ opened (job .entry) ⌝ }
 {
     MoveReader {
         job,
-        refusal: opening(job),
+        answer: opening(job),
         at: 0,
     }
 }

@@ -11,7 +11,8 @@ use lib.Dec.{eqb, ltb}
 use lib.ListN.{length, getD, drop}
 use Rattle.game.specs.Game.{Arena, Inside, Right, lost, met, wins, hopes}
 use Rattle.rules.specs.Job.{place, places, entry-number, arena}
-use Rattle.rules.specs.Bytes.{refusal, said}
+use Rattle.rules.specs.Fault.{Fault, only}
+use Rattle.rules.specs.Bytes.{fault, refusal, said}
 use Rattle.rules.specs.Keeps.{Keeps}
 use Rattle.rules.specs.Plan.{entry, entry-byte, Wrote, room, Plan}
 use Rattle.rules.specs.Calls.{Planning, refused, no-room, planned}
@@ -24,7 +25,7 @@ use Rattle.rules.proofs.Arenas.{inside-iff, size-of, arena-lawful}
 use Rattle.rules.proofs.Rows.{row-of}
 use Rattle.rules.proofs.Entries.{read-back}
 use Rattle.rules.proofs.Unique.{no-overrun}
-use Rattle.rules.proofs.Planned.{planned-exactly}
+use Rattle.rules.proofs.Planned.{planned-exactly, planned-plainly}
 
 -- ---- the list of f 0, f 1, .., of length n
 
@@ -119,22 +120,22 @@ module _ {b : List ℕ} (k : Keeps b) where
           (by-rounds-right G (arena-lawful b k) (place s q) (inside-iff (said b) (place s q) .1 (hs, hq)))
 
 -- Planning can answer and leave what it promises, whatever the bytes and the buffer.
-pub planning-exists : (b before : List ℕ) → (r : ℕ) × (after : List ℕ) × Planning b before r after
+pub planning-exists : (b before : List ℕ) → (f : Fault) × (after : List ℕ) × Planning b before f after
 planning-exists b before = go (eqb (refusal b) 0) refl (ltb (length before) (room (said b))) refl
   where
     go : (x : Bool) → eqb (refusal b) 0 ≡ x → (y : Bool) → ltb (length before) (room (said b)) ≡ y
-        → (r : ℕ) × (after : List ℕ) × Planning b before r after
-    go false e y l = (refusal b, before, refused (eqb-false (refusal b) 0 e))
-    go true e true l = (7, before, no-room (eqb-true (refusal b) 0 e) (ltb-true (length before) (room (said b)) l))
+        → (f : Fault) × (after : List ℕ) × Planning b before f after
+    go false e y l = (fault b, before, refused (eqb-false (refusal b) 0 e))
+    go true e true l = (only 7, before, no-room (eqb-true (refusal b) 0 e) (ltb-true (length before) (room (said b)) l))
     go true e false l =
         let z = eqb-true (refusal b) 0 e in
         let k = kept b .0 z in
         let (p, plan) = plan-exists k in
-        (0, p ++ drop (room (said b)) before, planned z (ltb-false (length before) (room (said b)) l) (no-overrun b k) plan)
+        (only 0, p ++ drop (room (said b)) before, planned z (ltb-false (length before) (room (said b)) l) (no-overrun b k) plan)
 
 -- and 0 where the job keeps the rules and the plan has room
-pub planned-with-room : (b before : List ℕ) → Keeps b → room (said b) ≤ length before → (after : List ℕ) × Planning b before 0 after
+pub planned-with-room : (b before : List ℕ) → Keeps b → room (said b) ≤ length before → (after : List ℕ) × Planning b before (only 0) after
 planned-with-room b before k enough =
-    let (r, after, p) = planning-exists b before in
-    let z : r ≡ 0 = planned-exactly p .1 (k, enough) in
-    (after, subst (λ (x : ℕ). Planning b before x after) z p)
+    let (f, after, p) = planning-exists b before in
+    let z : f ≡ only 0 = planned-plainly p (planned-exactly p .1 (k, enough)) in
+    (after, subst (λ (x : Fault). Planning b before x after) z p)

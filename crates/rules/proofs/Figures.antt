@@ -2,7 +2,8 @@
 use Prim.Native.Nat.{ℕ, zero, suc}
 use mathlib.Core.Bool.{true≢false}
 use mathlib.Core.Path.{_≡_, refl, sym, ap, _∙_}
-use Rattle.rules.specs.Answers.{refusal-number, value-number, AdvisedFigures, planned-figure, advised-figures, ShapeOf}
+use Rattle.rules.specs.Fault.{Fault}
+use Rattle.rules.specs.Answers.{refusal-fault, value-number, AdvisedFigures, planned-fault, advised-figures, ShapeOf}
 use Rattle.game.specs.declared.entry.Entry.{Entry}
 use Rattle.rules.specs.declared.entry.Shape.{Shape}
 use Rattle.rules.specs.declared.answer.Refusal.{Refusal}
@@ -14,27 +15,30 @@ use Rattle.rules.specs.declared.answer.Advised.{Advised}
 pub known-by : {A B : Type 0} (f : A → B) (g : B → A) → ((x : A) → g (f x) ≡ x) → (x y : A) → f x ≡ f y → x ≡ y
 known-by f g back x y e = sym (back x) ∙ ap g e ∙ back y
 
-abbrev pub refusal-of : ℕ → Refusal
-refusal-of zero = Refusal.Short
-refusal-of (suc zero) = Refusal.Short
-refusal-of (suc (suc zero)) = Refusal.Contents
-refusal-of (suc (suc (suc zero))) = Refusal.Counts
-refusal-of (suc (suc (suc (suc zero)))) = Refusal.Labels
-refusal-of (suc (suc (suc (suc (suc zero))))) = Refusal.Moves
-refusal-of (suc (suc (suc (suc (suc (suc zero)))))) = Refusal.Goal
-refusal-of (suc (suc (suc (suc (suc (suc (suc zero))))))) = Refusal.Room
-refusal-of (suc (suc (suc (suc (suc (suc (suc (suc zero)))))))) = Refusal.Rounds
-refusal-of (suc (suc (suc (suc (suc (suc (suc (suc (suc zero))))))))) = Refusal.Place
-refusal-of (suc (suc (suc (suc (suc (suc (suc (suc (suc (suc zero)))))))))) = Refusal.Entry
-refusal-of (suc (suc (suc (suc (suc (suc (suc (suc (suc (suc (suc n))))))))))) = Refusal.Outcome
+-- the refusal of a number with record k
+abbrev pub refusal-of : ℕ → ℕ → Refusal
+refusal-of zero k = Refusal.Short
+refusal-of (suc zero) k = Refusal.Short
+refusal-of (suc (suc zero)) k = Refusal.Contents
+refusal-of (suc (suc (suc zero))) k = Refusal.Counts
+refusal-of (suc (suc (suc (suc zero)))) k = Refusal.Labels
+refusal-of (suc (suc (suc (suc (suc zero))))) k = Refusal.Moves
+refusal-of (suc (suc (suc (suc (suc (suc zero)))))) k = Refusal.Goal
+refusal-of (suc (suc (suc (suc (suc (suc (suc zero))))))) k = Refusal.Room
+refusal-of (suc (suc (suc (suc (suc (suc (suc (suc zero)))))))) k = Refusal.Rounds
+refusal-of (suc (suc (suc (suc (suc (suc (suc (suc (suc zero))))))))) k = Refusal.Place
+refusal-of (suc (suc (suc (suc (suc (suc (suc (suc (suc (suc zero)))))))))) k = Refusal.Entry
+refusal-of (suc (suc (suc (suc (suc (suc (suc (suc (suc (suc (suc zero))))))))))) k = Refusal.Outcome
+refusal-of (suc (suc (suc (suc (suc (suc (suc (suc (suc (suc (suc (suc zero)))))))))))) k = Refusal.Field k
+refusal-of (suc (suc (suc (suc (suc (suc (suc (suc (suc (suc (suc (suc (suc n))))))))))))) k = Refusal.Order k
 
 abbrev value-of : ℕ → Value
 value-of zero = Value.Losing
 value-of (suc zero) = Value.Pending
 value-of (suc (suc n)) = Value.Winning
 
--- a refusal's number is never 0, and no two refusals share one
-pub refusal-back : (r : Refusal) → refusal-of (refusal-number r) ≡ r
+-- a refusal's number is never 0, and no two refusals share one with the same record
+pub refusal-back : (r : Refusal) → refusal-of (refusal-fault r .number) (refusal-fault r .«record») ≡ r
 refusal-back Refusal.Short = refl
 refusal-back Refusal.Contents = refl
 refusal-back Refusal.Counts = refl
@@ -46,8 +50,10 @@ refusal-back Refusal.Rounds = refl
 refusal-back Refusal.Place = refl
 refusal-back Refusal.Entry = refl
 refusal-back Refusal.Outcome = refl
+refusal-back (Refusal.Field k) = refl
+refusal-back (Refusal.Order k) = refl
 
-pub refusal-some : (r : Refusal) → (n : ℕ) × (refusal-number r ≡ suc n)
+pub refusal-some : (r : Refusal) → (n : ℕ) × (refusal-fault r .number ≡ suc n)
 refusal-some Refusal.Short = (0, refl)
 refusal-some Refusal.Contents = (1, refl)
 refusal-some Refusal.Counts = (2, refl)
@@ -59,6 +65,8 @@ refusal-some Refusal.Rounds = (7, refl)
 refusal-some Refusal.Place = (8, refl)
 refusal-some Refusal.Entry = (9, refl)
 refusal-some Refusal.Outcome = (10, refl)
+refusal-some (Refusal.Field k) = (11, refl)
+refusal-some (Refusal.Order k) = (12, refl)
 
 pub value-back : (v : Value) → value-of (value-number v) ≡ v
 value-back Value.Losing = refl
@@ -68,28 +76,34 @@ value-back Value.Winning = refl
 pub value-known : (v w : Value) → value-number v ≡ value-number w → v ≡ w
 value-known = known-by value-number value-of value-back
 
-abbrev pub by-refusal : {A : Type 0} → ℕ → A → (Refusal → A) → A
-by-refusal zero done refused = done
-by-refusal (suc n) done refused = refused (refusal-of (suc n))
+-- what is answered by a number, 0 or not, with record k
+abbrev pub by-refusal : {A : Type 0} → ℕ → ℕ → A → (Refusal → A) → A
+by-refusal zero k done refused = done
+by-refusal (suc n) k done refused = refused (refusal-of (suc n) k)
 
-pub by-refusal-back : {A : Type 0} (r : Refusal) (done : A) (refused : Refusal → A) → by-refusal (refusal-number r) done refused ≡ refused r
+pub by-refusal-back : {A : Type 0} (r : Refusal) (done : A) (refused : Refusal → A)
+    → by-refusal (refusal-fault r .number) (refusal-fault r .«record») done refused ≡ refused r
 by-refusal-back r done refused =
     let n = refusal-some r in
-    rw (n .1) (ap refused (ap refusal-of (sym (n .1)) ∙ refusal-back r))
+    rw (n .1) (ap refused (ap (λ (m : ℕ). refusal-of m (refusal-fault r .«record»)) (sym (n .1)) ∙ refusal-back r))
 
-planned-back : (r : Planned) → by-refusal (planned-figure r) Planned.Done Planned.Refused ≡ r
+abbrev planned-of : Fault → Planned
+planned-of f = by-refusal (f .number) (f .«record») Planned.Done Planned.Refused
+
+planned-back : (r : Planned) → planned-of (planned-fault r) ≡ r
 planned-back Planned.Done = refl
 planned-back (Planned.Refused r) = by-refusal-back r Planned.Done Planned.Refused
 
 abbrev advised-of : AdvisedFigures → Advised
-advised-of f = by-refusal (f .refusal) (Advised.Says (value-of (f .value)) (f .action) (f .number)) Advised.Refused
+advised-of f =
+    by-refusal (f .refusal) (f .«record») (Advised.Says (value-of (f .value)) (f .action) (f .number)) Advised.Refused
 
 advised-back : (r : Advised) → advised-of (advised-figures r) ≡ r
 advised-back (Advised.Says v a n) = ap (λ (w : Value). Advised.Says w a n) (value-back v)
 advised-back (Advised.Refused r) = by-refusal-back r _ Advised.Refused
 
-pub planned-known : (r s : Planned) → planned-figure r ≡ planned-figure s → r ≡ s
-planned-known = known-by planned-figure (λ n. by-refusal n Planned.Done Planned.Refused) planned-back
+pub planned-known : (r s : Planned) → planned-fault r ≡ planned-fault s → r ≡ s
+planned-known = known-by planned-fault planned-of planned-back
 
 pub advised-known : (r s : Advised) → advised-figures r ≡ advised-figures s → r ≡ s
 advised-known = known-by advised-figures advised-of advised-back

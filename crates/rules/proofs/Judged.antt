@@ -3,20 +3,20 @@ use Prim.Native.Nat.{ℕ, zero, suc, _+_, _*_, _%_, _≤_, _<_}
 use mathlib.Core.Bool.{true}
 use mathlib.Core.List.{List}
 use mathlib.Core.Logic.{_⊎_, ⊎-elim, _↔_, Iff·rfl, Iff·trans, Iff·and}
-use mathlib.Core.Path.{_≡_, refl}
+use mathlib.Core.Path.{_≡_}
 use native.Mathlib.Omega.{arith}
 use lib.Dec.{leb, ltb}
 use lib.ListN.{length}
 use lib.Pow.{pow-pos}
-use Rattle.game.specs.Below.{every-below}
 use Rattle.rules.specs.Job.{Job}
 use Rattle.rules.specs.Bytes.{offset, size, end, byte, width, rows, mark, said}
-use Rattle.rules.specs.Bytes.{contents, in-range, counts, labels, within, follows, good, moves, goal}
+use Rattle.rules.specs.Bytes.{contents, in-range, counts, labels, within, whole, goal}
 use Rattle.rules.specs.Keeps.{Before}
+use Rattle.rules.specs.BadRecord.{FieldsFit, OrderFits}
 use Rattle.rules.specs.declared.place.Move.{Move}
 use Rattle.rules.proofs.Rows.{rows-iff}
 use Rattle.game.proofs.Tests.{and-iff, ltb-iff, leb-iff, eqb-iff, every-iff, all-and, last-or-below}
-use Rattle.rules.proofs.Order.{before-iff, before-trans}
+use Rattle.rules.proofs.Order.{before-trans}
 
 pub contents-iff : (b : List ℕ) → (contents b ≡ true)
     ↔ ((offset b 0 ≡ 16)
@@ -59,34 +59,28 @@ pub within-iff : (s a : ℕ) (m : Move) → (within s a m ≡ true)
 within-iff s a m = and-iff (ltb-iff (m .state) s) (and-iff (ltb-iff (m .action) a) (ltb-iff (m .outcome) s))
 
 -- records that each come after the one before come after every earlier one
-pub ascending-iff : (f : ℕ → Move) (n : ℕ)
-    → ((k : ℕ) → k < n → follows f k ≡ true) ↔ ((k m : ℕ) → k < m → m < n → Before (f k) (f m))
-ascending-iff f n = (up, down)
+pub ascending-iff : (j : Job)
+    → ((k : ℕ) → k < j .records → OrderFits j k) ↔ ((k m : ℕ) → k < m → m < j .records → Before (j .move k) (j .move m))
+ascending-iff j = (up, down)
   where
-    up : ((k : ℕ) → k < n → follows f k ≡ true) → (k m : ℕ) → k < m → m < n → Before (f k) (f m)
+    up : ((k : ℕ) → k < j .records → OrderFits j k) → (k m : ℕ) → k < m → m < j .records → Before (j .move k) (j .move m)
     up t k zero h l = absurd (omega arith)
     up t k (suc m) h l =
-        let next : Before (f m) (f (suc m)) = before-iff (f m) (f (suc m)) .0 (t (suc m) l) in
+        let next : Before (j .move m) (j .move (suc m)) = t (suc m) l in
         ⊎-elim (λ (e : k ≡ m). rw e next) (λ (g : k < m). before-trans (up t k m g (omega arith)) next) (last-or-below h)
 
-    down : ((k m : ℕ) → k < m → m < n → Before (f k) (f m)) → (k : ℕ) → k < n → follows f k ≡ true
-    down t zero h = refl
-    down t (suc k) h = before-iff (f k) (f (suc k)) .1 (t k (suc k) (omega arith) h)
+    down : ((k m : ℕ) → k < m → m < j .records → Before (j .move k) (j .move m)) → (k : ℕ) → k < j .records → OrderFits j k
+    down t zero h = tt
+    down t (suc k) h = t k (suc k) (omega arith) h
 
-pub records-iff : (j : Job) → (every-below (j .records) (good j) ≡ true)
-    ↔ (((k : ℕ) → k < j .records → (j .move k .state < j .states) × ((j .move k .action < j .actions) × (j .move k .outcome < j .states)))
-    × ((k m : ℕ) → k < m → m < j .records → Before (j .move k) (j .move m)))
-records-iff j =
-    Iff·trans (every-iff (good j) (λ k. and-iff (within-iff (j .states) (j .actions) (j .move k)) Iff·rfl) (j .records))
-    (Iff·trans (all-and (j .records)) (Iff·and Iff·rfl (ascending-iff (j .move) (j .records))))
+pub records-iff : (j : Job) → ((k : ℕ) → k < j .records → FieldsFit j k × OrderFits j k)
+    ↔ (((k : ℕ) → k < j .records → FieldsFit j k) × ((k m : ℕ) → k < m → m < j .records → Before (j .move k) (j .move m)))
+records-iff j = Iff·trans (all-and (j .records)) (Iff·and Iff·rfl (ascending-iff j))
 
-pub moves-iff : (b : List ℕ) → let j = said b in (moves b ≡ true)
-    ↔ ((size b 2 ≡ 3 * j .records) × ((j .records ≤ 4096)
-    × (((k : ℕ) → k < j .records → (j .move k .state < j .states) × ((j .move k .action < j .actions) × (j .move k .outcome < j .states)))
-    × ((k m : ℕ) → k < m → m < j .records → Before (j .move k) (j .move m)))))
-moves-iff b =
-    let tests = and-iff (eqb-iff (size b 2 % 3) 0) (and-iff (leb-iff (size b 2) 12288) (records-iff (said b))) in
-    (λ e. let t = tests .0 e in (omega arith, (omega arith, t .1 .1)), λ t. tests .1 (omega arith, (omega arith, t .1 .1)))
+pub whole-iff : (b : List ℕ) → (whole b ≡ true) ↔ ((size b 2 ≡ 3 * said b .records) × (said b .records ≤ 4096))
+whole-iff b =
+    let tests = and-iff (eqb-iff (size b 2 % 3) 0) (leb-iff (size b 2) 12288) in
+    (λ e. let t = tests .0 e in (omega arith, omega arith), λ t. tests .1 (omega arith, omega arith))
 
 pub goal-iff : (b : List ℕ) → let j = said b in (goal b ≡ true)
     ↔ ((size b 3 ≡ j .goals * width b + j .goals) × (((q l : ℕ) → q < j .goals → l < width b → j .next q l < j .goals)

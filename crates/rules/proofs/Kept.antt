@@ -13,7 +13,7 @@ use Rattle.rules.specs.Bytes.{offset, width, said}
 use Rattle.rules.specs.Bytes.{refusal}
 use Rattle.rules.specs.Keeps.{Keeps}
 use Rattle.rules.proofs.Order.{before-state, before-differ}
-use Rattle.rules.proofs.Judged.{contents-iff, counts-iff, labels-iff, moves-iff, goal-iff}
+use Rattle.rules.proofs.Judged.{contents-iff, counts-iff, labels-iff, whole-iff, records-iff, goal-iff}
 use Rattle.rules.proofs.Numbers.{refusal-0}
 use Rattle.sets.specs.Sets.{set-room}
 
@@ -22,11 +22,12 @@ kept b = (into, back)
   where
     into : refusal b ≡ 0 → Keeps b
     into e =
-        let (a, (c, (n, (l, (m, g))))) = refusal-0 b .0 e in
+        let (a, (c, (n, (l, (w, (r, g)))))) = refusal-0 b .0 e in
         let (c0, (c1, (c2, (c3, (c4, c5))))) = contents-iff b .0 c in
         let (n0, (n1, (n2, (n3, (n4, (n5, (n6, (n7, n8)))))))) = counts-iff (said b) .0 n in
         let (l0, l1) = labels-iff b .0 l in
-        let (m0, (m1, (m2, m3))) = moves-iff b .0 m in
+        let (m0, m1) = whole-iff b .0 w in
+        let (m2, m3) = records-iff (said b) .0 r in
         let (g0, (g1, g2)) = goal-iff b .0 g in
         record {
           contents-long = a;
@@ -63,12 +64,10 @@ kept b = (into, back)
         let c = contents-iff b .1 (omega arith) in
         let n = counts-iff (said b) .1 (omega arith) in
         let l = labels-iff b .1 (k .labels-long, k .label-below) in
-        let m =
-        moves-iff b .1
-        (k .moves-long, (k .few-records, (λ i h. (k .state-below i h, (k .action-below i h, k .outcome-below i h)), k .ascending)))
-        in
+        let w = whole-iff b .1 (k .moves-long, k .few-records) in
+        let r = records-iff (said b) .1 (λ i h. (k .state-below i h, (k .action-below i h, k .outcome-below i h)), k .ascending) in
         let g = goal-iff b .1 (k .goal-long, (k .next-below, k .mark-range)) in
-        refusal-0 b .1 (k .contents-long, (c, (n, (l, (m, g)))))
+        refusal-0 b .1 (k .contents-long, (c, (n, (l, (w, (r, g))))))
 
 -- ---- laws of bytes that keep the rules
 

@@ -2,6 +2,7 @@
 pub mod Order
 pub mod Rows
 pub mod Judged
+pub mod Faults
 pub mod Numbers
 pub mod Kept
 pub mod Arenas

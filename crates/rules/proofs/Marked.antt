@@ -3,9 +3,11 @@ use mathlib.Core.Bool.{Bool, true, _&&_}
 use mathlib.Core.List.{List·Memᴰ}
 use mathlib.Core.Path.{_≡_, refl, sym}
 use lib.Dec.{eqb}
+use lib.ListN.{set}
 use Rattle.game.specs.Game.{says}
 use Rattle.rules.specs.Job.{place, start, arena}
-use Rattle.rules.specs.Bytes.{refusal, said}
+use Rattle.rules.specs.Fault.{with-record}
+use Rattle.rules.specs.Bytes.{fault, refusal, said}
 use Rattle.rules.specs.Calls.{is-place}
 use Rattle.rules.specs.Examples.{plate, early, Case, marked, CaseHolds}
 use Rattle.game.specs.declared.entry.Entry.{Entry}
@@ -16,7 +18,7 @@ use Rattle.rules.proofs.Kept.{kept}
 use Rattle.game.proofs.Rounds.{win, hope}
 use Rattle.game.proofs.Right.{by-rounds, right-iff, right-unique}
 use Rattle.rules.proofs.Arenas.{inside-iff, arena-lawful}
-use Rattle.rules.proofs.Planned.{planned-exactly, planned-right}
+use Rattle.rules.proofs.Planned.{planned-exactly, planned-plainly, planned-right}
 use Rattle.rules.proofs.Existing.{planned-with-room}
 
 same-entry : Entry → Entry → Bool
@@ -50,13 +52,23 @@ case-holds c h =
       keeps = k;
       inside = i;
       planned = λ before enough. planned-with-room b before k enough;
-      answered = λ before after r enough p. planned-exactly p .1 (k, enough);
+      answered = λ before after f enough p. planned-plainly p (planned-exactly p .1 (k, enough));
       there = λ before after p. right-unique G L (planned-right p refl (c .at) i) right;
     }
 
 -- Each marked case holds, from the job's bytes to the plan's.
 pub marked-planned : (c : Case) → List·Memᴰ c marked → CaseHolds c
 marked-planned c m = case-holds c (every-at holds marked all-hold c m)
+
+-- One plate with some of its bytes changed: the same record twice is told by the second; a record is told by its fields before its order,
+-- and the first bad record by either before any later one, and before Goal
+pub plate-faults : let at = set plate in
+    (fault (at 41 1) ≡ with-record 13 5)
+    × (fault (set (at 35 0) 36 3) ≡ with-record 12 3)
+    × (fault (set (at 37 4) 41 0) ≡ with-record 12 3)
+    × (fault (set (at 35 0) 43 4) ≡ with-record 13 3)
+    × (fault (set (at 26 4) 58 2) ≡ with-record 12 0)
+plate-faults = (refl, refl, refl, refl, refl)
 
 -- where the worked jobs start
 pub plate-starts : start (said plate) ≡ place 0 0

@@ -8,6 +8,7 @@ use lib.Arith.{digits-lt}
 use lib.ListN.{length, drop, List·getD-append}
 use Rattle.game.specs.Game.{Inside, Right}
 use Rattle.rules.specs.Job.{places, entry-number, arena}
+use Rattle.rules.specs.Fault.{Fault, only}
 use Rattle.rules.specs.Bytes.{said}
 use Rattle.rules.specs.Keeps.{Keeps}
 use Rattle.rules.specs.Plan.{entry, room}
@@ -23,11 +24,19 @@ abbrev pub entry-of : (b after : List ℕ) → Place → Entry
 entry-of b after p = entry after (entry-number (said b .goals) p)
 
 -- A job is planned exactly when it keeps the rules and the plan has room.
-pub planned-exactly : {b before after : List ℕ} {r : ℕ} → Planning b before r after → (r ≡ 0) ↔ (Keeps b × (room (said b) ≤ length before))
+pub planned-exactly : {b before after : List ℕ} {f : Fault} → Planning b before f after
+    → (f .number ≡ 0) ↔ (Keeps b × (room (said b) ≤ length before))
 planned-exactly {b} (refused n) = (λ e. absurd (n e), λ t. absurd (n (kept b .1 (t .0))))
 planned-exactly {b} (no-room e l) = (λ z. absurd (omega arith), λ t. absurd (omega (arith, t .1)))
 planned-exactly {b} (overrun e l o) = (λ z. absurd (omega arith), λ t. absurd (no-overrun b (t .0) o))
 planned-exactly {b} (planned e l n p) = (λ z. (kept b .0 e, l), λ t. refl)
+
+-- the answer is then 0 with no record
+pub planned-plainly : {b before after : List ℕ} {f : Fault} → Planning b before f after → f .number ≡ 0 → f ≡ only 0
+planned-plainly (refused n) z = absurd (n z)
+planned-plainly (no-room e l) z = absurd (omega arith)
+planned-plainly (overrun e l o) z = absurd (omega arith)
+planned-plainly (planned e l n p) z = refl
 
 -- the entry of a place in a plan with more bytes behind it
 front-entry : (p q : List ℕ) (i : ℕ) → 4 * i + 4 ≤ length p → entry (p ++ q) i ≡ entry p i
@@ -39,7 +48,8 @@ front-entry p q i h =
     λ j. record { value = a j; action = b j; number = c j + 256 * d j }
 
 -- Every plan byte is the one that the rules fix: each entry says what is right (`plan-unique` has the bytes),
-pub planned-right : {b before after : List ℕ} {r : ℕ} → Planning b before r after → r ≡ 0 → (p : Place) → Inside (arena (said b)) p
+pub planned-right : {b before after : List ℕ} {f : Fault} → Planning b before f after → f .number ≡ 0 → (p : Place)
+    → Inside (arena (said b)) p
     → Right (arena (said b)) p (entry-of b after p)
 planned-right (refused n) z p i = absurd (n z)
 planned-right (no-room e l) z p i = absurd (omega arith)

@@ -6,11 +6,12 @@ use mathlib.Core.Path.{_≡_, refl, sym, ap, _∙_}
 use native.Mathlib.Omega.{arith}
 use lib.ListN.{drop}
 use Rattle.rules.specs.Job.{arena}
+use Rattle.rules.specs.Fault.{Fault}
 use Rattle.rules.specs.Bytes.{said}
 use Rattle.rules.specs.Keeps.{Keeps}
 use Rattle.rules.specs.Plan.{room}
 use Rattle.rules.specs.Calls.{Overrun, Planning, refused, no-room, overrun, planned, started, followed, advised}
-use Rattle.rules.specs.Answers.{MovedFigures, planned-figure, advised-figures}
+use Rattle.rules.specs.Answers.{MovedFigures, planned-fault, advised-figures}
 use Rattle.rules.specs.declared.answer.Planned.{Planned}
 use Rattle.rules.specs.declared.answer.Advised.{Advised}
 use Rattle.game.proofs.Bounds.{wins-below, hopes-below}
@@ -27,8 +28,8 @@ pub no-overrun : (b : List ℕ) → Keeps b → Overrun (said b) → ⊥
 no-overrun b k (p, i, inl w) = below (wins-below (arena (said b)) (arena-lawful b k) _ p i w) (size-of (said b))
 no-overrun b k (p, i, inr (h, n)) = below (hopes-below (arena (said b)) (arena-lawful b k) _ p i n) (size-of (said b))
 
-pub planning-unique : {b before after after′ : List ℕ} {r r′ : ℕ} → Planning b before r after → Planning b before r′ after′
-    → (r ≡ r′) × (after ≡ after′)
+pub planning-unique : {b before after after′ : List ℕ} {f f′ : Fault} → Planning b before f after → Planning b before f′ after′
+    → (f ≡ f′) × (after ≡ after′)
 planning-unique (refused n) (refused n′) = (refl, refl)
 planning-unique (refused n) (no-room e l) = absurd (n e)
 planning-unique (refused n) (overrun e l o) = absurd (n e)
@@ -47,8 +48,8 @@ planning-unique (planned e l n p) (overrun e′ l′ o) = absurd (n o)
 planning-unique {b} {before} (planned e l n p) (planned e′ l′ n′ p′) =
     (refl, ap (λ (x : List ℕ). x ++ drop (room (said b)) before) (plan-unique (said b) (arena-lawful b (kept b .0 e)) p p′))
 
-pub planned-unique : {b before after after′ : List ℕ} (r r′ : Planned) → Planning b before (planned-figure r) after
-    → Planning b before (planned-figure r′) after′ → (r ≡ r′) × (after ≡ after′)
+pub planned-unique : {b before after after′ : List ℕ} (r r′ : Planned) → Planning b before (planned-fault r) after
+    → Planning b before (planned-fault r′) after′ → (r ≡ r′) × (after ≡ after′)
 planned-unique r r′ p p′ = let u = planning-unique p p′ in (planned-known r r′ (u .0), u .1)
 
 -- starting and following: what they answer is one record of figures

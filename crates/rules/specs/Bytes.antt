@@ -1,5 +1,5 @@
 -- A job in bytes: the job that they say, and the first number of the table that applies to them.
--- Document 01, "A job in bytes" and "Numbers that say no", 1 to 6.
+-- Document 01, "A job in bytes" and "Numbers that say no", 1 to 6, and document 02's 12 and 13.
 use Prim.Native.Nat.{ℕ, zero, suc, _+_, _*_, _/_, _%_, _^_}
 use mathlib.Core.Bool.{Bool, true, cond, not, _&&_, _||_}
 use mathlib.Core.List.{List}
@@ -7,6 +7,7 @@ use lib.Dec.{leb, ltb, eqb}
 use lib.ListN.{length, getD}
 use Rattle.game.specs.Below.{every-below}
 use Rattle.rules.specs.Job.{Job}
+use Rattle.rules.specs.Fault.{Fault, only, with-record, or-else}
 use Rattle.rules.specs.declared.place.Move.{Move}
 
 -- a number of two bytes, low byte first
@@ -99,12 +100,22 @@ abbrev pub follows : (ℕ → Move) → ℕ → Bool
 follows f zero = true
 follows f (suc k) = before (f k) (f (suc k))
 
--- a record is judged by its fields, and by its order after the one before it
-abbrev pub good : Job → ℕ → Bool
-good j k = within (j .states) (j .actions) (j .move k) && follows (j .move) k
+-- record k by two tests, of its fields and then of its order
+abbrev pub judged : Bool → Bool → ℕ → Fault
+judged fields order k = cond (not fields) (with-record 12 k) (cond (not order) (with-record 13 k) (only 0))
 
-abbrev pub moves : List ℕ → Bool
-moves b = eqb (size b 2 % 3) 0 && (leb (size b 2) 12288 && every-below (said b .records) (good (said b)))
+-- what is wrong with record k
+abbrev pub record-fault : Job → ℕ → Fault
+record-fault j k = judged (within (j .states) (j .actions) (j .move k)) (follows (j .move) k) k
+
+-- the first n records are judged from the front: what is wrong with the first bad one
+abbrev pub records-fault : Job → ℕ → Fault
+records-fault j zero = only 0
+records-fault j (suc k) = or-else (records-fault j k) (record-fault j k)
+
+-- Moves has whole records, not too many
+abbrev pub whole : List ℕ → Bool
+whole b = eqb (size b 2 % 3) 0 && leb (size b 2) 12288
 
 abbrev pub goal : List ℕ → Bool
 goal b =
@@ -112,13 +123,17 @@ goal b =
     && (every-below (rows b) (λ i. ltb (byte b 3 i) (said b .goals))
     && every-below (said b .goals) (λ q. leb (mark b q) 1))
 
--- The first number of the table that applies to the bytes alone, or 0.
+-- The first number of the table that applies to the bytes alone, with its record, or 0. 12 and 13 share one place between 5 and 6.
+abbrev pub fault : List ℕ → Fault
+fault b =
+    cond (ltb (length b) 16) (only 1)
+    (cond (not (contents b)) (only 2)
+    (cond (not (counts (said b))) (only 3)
+    (cond (not (labels b)) (only 4)
+    (cond (not (whole b)) (only 5)
+    (or-else (records-fault (said b) (said b .records))
+    (cond (not (goal b)) (only 6)
+    (only 0)))))))
+
 abbrev pub refusal : List ℕ → ℕ
-refusal b =
-    cond (ltb (length b) 16) 1
-    (cond (not (contents b)) 2
-    (cond (not (counts (said b))) 3
-    (cond (not (labels b)) 4
-    (cond (not (moves b)) 5
-    (cond (not (goal b)) 6
-    0)))))
+refusal b = fault b .number

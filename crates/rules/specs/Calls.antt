@@ -8,7 +8,8 @@ use lib.Dec.{ltb, eqb}
 use lib.ListN.{length, drop, replicate}
 use Rattle.game.specs.Game.{Inside, WinsIn, HopesIn, Pending}
 use Rattle.rules.specs.Job.{Job, place, places, entry-number, entered, start, recorded, arena}
-use Rattle.rules.specs.Bytes.{refusal, said}
+use Rattle.rules.specs.Fault.{Fault, only}
+use Rattle.rules.specs.Bytes.{fault, refusal, said}
 use Rattle.rules.specs.Plan.{entry, room, Plan, shaped}
 use Rattle.rules.specs.Answers.{MovedFigures, AdvisedFigures}
 use Rattle.rules.specs.declared.place.Place.{Place}
@@ -20,27 +21,27 @@ use Rattle.game.specs.declared.entry.Entry.{Entry}
 abbrev pub Overrun : Job → Type 0
 Overrun j = (p : Place) × Inside (arena j) p × (WinsIn (arena j) p (places j) ⊎ (Pending (arena j) p × HopesIn (arena j) p (places j)))
 
--- `Planning b before r after`: planning the job b into a buffer that holds `before` answers r and leaves `after`.
+-- `Planning b before f after`: planning the job b into a buffer that holds `before` answers f and leaves `after`.
 -- A refusal keeps every byte, save that 8 leaves the first 4·S·Q zero; bytes beyond the plan stay.
-pub data Planning (b before : List ℕ) : ℕ → List ℕ → Type 0 where
-  refused : (refusal b ≡ 0 → ⊥) → Planning b before (refusal b) before
-  no-room : refusal b ≡ 0 → length before < room (said b) → Planning b before 7 before
+pub data Planning (b before : List ℕ) : Fault → List ℕ → Type 0 where
+  refused : (refusal b ≡ 0 → ⊥) → Planning b before (fault b) before
+  no-room : refusal b ≡ 0 → length before < room (said b) → Planning b before (only 7) before
   overrun : refusal b ≡ 0 → room (said b) ≤ length before → Overrun (said b)
-      → Planning b before 8 (replicate (room (said b)) 0 ++ drop (room (said b)) before)
+      → Planning b before (only 8) (replicate (room (said b)) 0 ++ drop (room (said b)) before)
   planned : {p : List ℕ} → refusal b ≡ 0 → room (said b) ≤ length before → (Overrun (said b) → ⊥) → Plan (said b) p
-      → Planning b before 0 (p ++ drop (room (said b)) before)
+      → Planning b before (only 0) (p ++ drop (room (said b)) before)
 
 -- ---- starting and following
 
-abbrev pub refused-move : ℕ → MovedFigures
-refused-move r = record { refusal = r; state = 0; goal = 0 }
+abbrev pub refused-move : Fault → MovedFigures
+refused-move f = record { refusal = f .number; state = 0; goal = 0; «record» = f .«record» }
 
 abbrev pub moved-to : Place → MovedFigures
-moved-to p = record { refusal = 0; state = p .state; goal = p .goal }
+moved-to p = record { refusal = 0; state = p .state; goal = p .goal; «record» = 0 }
 
 -- what starting answers
 abbrev pub started : List ℕ → MovedFigures
-started b = cond (not (eqb (refusal b) 0)) (refused-move (refusal b)) (moved-to (start (said b)))
+started b = cond (not (eqb (refusal b) 0)) (refused-move (fault b)) (moved-to (start (said b)))
 
 abbrev pub is-place : Job → ℕ → ℕ → Bool
 is-place j s q = ltb s (j .states) && ltb q (j .goals)
@@ -48,25 +49,25 @@ is-place j s q = ltb s (j .states) && ltb q (j .goals)
 -- what following answers, at state s and goal state q, of action a and outcome t
 abbrev pub followed : List ℕ → ℕ → ℕ → ℕ → ℕ → MovedFigures
 followed b s q a t =
-    cond (not (eqb (refusal b) 0)) (refused-move (refusal b))
-    (cond (not (is-place (said b) s q)) (refused-move 9)
-    (cond (not (recorded (said b) s a t)) (refused-move 11)
+    cond (not (eqb (refusal b) 0)) (refused-move (fault b))
+    (cond (not (is-place (said b) s q)) (refused-move (only 9))
+    (cond (not (recorded (said b) s a t)) (refused-move (only 11))
     (moved-to (entered (said b) q t))))
 
 -- ---- advice
 
-abbrev pub refused-advice : ℕ → AdvisedFigures
-refused-advice r = record { refusal = r; value = 0; action = 0; number = 0 }
+abbrev pub refused-advice : Fault → AdvisedFigures
+refused-advice f = record { refusal = f .number; value = 0; action = 0; number = 0; «record» = f .«record» }
 
 abbrev pub advice-of : Entry → AdvisedFigures
-advice-of e = record { refusal = 0; value = e .value; action = e .action; number = e .number }
+advice-of e = record { refusal = 0; value = e .value; action = e .action; number = e .number; «record» = 0 }
 
 -- what advice answers, of the plan p, at state s and goal state q
 abbrev pub advised : List ℕ → List ℕ → ℕ → ℕ → AdvisedFigures
 advised b p s q =
     let e = entry p (entry-number (said b .goals) (place s q)) in
-    cond (not (eqb (refusal b) 0)) (refused-advice (refusal b))
-    (cond (ltb (length p) (room (said b))) (refused-advice 7)
-    (cond (not (is-place (said b) s q)) (refused-advice 9)
-    (cond (not (shaped (said b .actions) (places (said b)) e)) (refused-advice 10)
+    cond (not (eqb (refusal b) 0)) (refused-advice (fault b))
+    (cond (ltb (length p) (room (said b))) (refused-advice (only 7))
+    (cond (not (is-place (said b) s q)) (refused-advice (only 9))
+    (cond (not (shaped (said b .actions) (places (said b)) e)) (refused-advice (only 10))
     (advice-of e))))

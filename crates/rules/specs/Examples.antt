@@ -5,6 +5,7 @@ use mathlib.Core.Path.{_≡_}
 use lib.ListN.{length}
 use Rattle.game.specs.Game.{says, Inside}
 use Rattle.rules.specs.Job.{place, entry-number, arena}
+use Rattle.rules.specs.Fault.{Fault, only}
 use Rattle.rules.specs.Bytes.{said}
 use Rattle.rules.specs.Keeps.{Keeps}
 use Rattle.rules.specs.Plan.{entry, room}
@@ -70,7 +71,8 @@ marked =
 pub record CaseHolds (c : Case) : Type 0 where
   pub keeps : Keeps (c .job)
   pub inside : Inside (arena (said (c .job))) (c .at)
-  pub planned : (before : List ℕ) → room (said (c .job)) ≤ length before → (after : List ℕ) × Planning (c .job) before 0 after
-  pub answered : (before after : List ℕ) (r : ℕ) → room (said (c .job)) ≤ length before → Planning (c .job) before r after → r ≡ 0
-  pub there : (before after : List ℕ) → Planning (c .job) before 0 after
+  pub planned : (before : List ℕ) → room (said (c .job)) ≤ length before → (after : List ℕ)
+      × Planning (c .job) before (only 0) after
+  pub answered : (before after : List ℕ) (f : Fault) → room (said (c .job)) ≤ length before → Planning (c .job) before f after → f ≡ only 0
+  pub there : (before after : List ℕ) → Planning (c .job) before (only 0) after
       → entry after (entry-number (said (c .job) .goals) (c .at)) ≡ c .entry

@@ -1,5 +1,5 @@
 -- What it is for the bytes of a job to keep the rules: document 01, "A job in bytes", a field for each rule.
--- `kept` of proofs/Kept.antt shows that these are the bytes that no number from 1 to 6 refuses.
+-- `kept` of proofs/Kept.antt shows that these are the bytes that no number refuses.
 use Prim.Native.Nat.{ℕ, _+_, _*_, _≤_, _<_}
 use mathlib.Core.List.{List}
 use mathlib.Core.Logic.{_⊎_}

@@ -1,7 +1,9 @@
 -- The meaning: what the promises of every crate are said with.
 pub mod Job
+pub mod Fault
 pub mod Bytes
 pub mod Keeps
+pub mod BadRecord
 pub mod Answers
 pub mod Plan
 pub mod Calls

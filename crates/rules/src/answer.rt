@@ -1,14 +1,16 @@
 // The answers of the calls, and the numbers that stand for them.
 ghost use mathlib.Core.Path.{_≡_};
-ghost use Rattle.rules.specs.Answers.{refusal-number, value-number};
+ghost use Rattle.rules.specs.Answers.{refusal-fault, value-number};
 
-// Why a call says no: the names of the table of numbers that say no, in its order.
+// Why a call says no: the names of the table of numbers that say no, in its order. A field or an order has the bad record's number.
 pub enum Refusal {
     Short,
     Contents,
     Counts,
     Labels,
     Moves,
+    Field(u32),
+    Order(u32),
     Goal,
     Room,
     Rounds,
@@ -41,7 +43,7 @@ pub enum Advised {
 
 impl Refusal {
     pub fn number(self) -> u32
-        ensures { λ r. ⌜ r ≡ refusal-number self ⌝ }
+        ensures { λ r. ⌜ r ≡ refusal-fault self .number ⌝ }
     {
         match self {
             Refusal::Short => 1,
@@ -49,12 +51,35 @@ impl Refusal {
             Refusal::Counts => 3,
             Refusal::Labels => 4,
             Refusal::Moves => 5,
+            Refusal::Field(_) => 12,
+            Refusal::Order(_) => 13,
             Refusal::Goal => 6,
             Refusal::Room => 7,
             Refusal::Rounds => 8,
             Refusal::Place => 9,
             Refusal::Entry => 10,
             Refusal::Outcome => 11,
+        }
+    }
+
+    // The number of the bad record, or 0 where none is named.
+    pub fn record(self) -> u32
+        ensures { λ r. ⌜ r ≡ refusal-fault self .«record» ⌝ }
+    {
+        match self {
+            Refusal::Field(k) => k,
+            Refusal::Order(k) => k,
+            Refusal::Short => 0,
+            Refusal::Contents => 0,
+            Refusal::Counts => 0,
+            Refusal::Labels => 0,
+            Refusal::Moves => 0,
+            Refusal::Goal => 0,
+            Refusal::Room => 0,
+            Refusal::Rounds => 0,
+            Refusal::Place => 0,
+            Refusal::Entry => 0,
+            Refusal::Outcome => 0,
         }
     }
 }

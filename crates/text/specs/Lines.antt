@@ -1,11 +1,12 @@
--- The lines that the programs print, as lists of bytes: document 01, "One plate, whole".
+-- The lines that the programs print, as lists of bytes: document 01, "One plate, whole", and document 02's record of a refusal.
 use Prim.Native.Nat.{ℕ, zero, suc, _+_, _/_, _%_}
 use Prim.Native.Char.{code}
 use Prim.Native.String as string
 use Prim.Native.String.{String}
-use mathlib.Core.Bool.{cond}
+use mathlib.Core.Bool.{Bool, cond, _||_}
 use mathlib.Core.List.{List, [], _∷_, _++_, map}
 use lib.Dec.{ltb, eqb}
+use Rattle.rules.specs.Fault.{Fault}
 
 -- the decimal text of n where it has at most as many digits as there are turns: those before the last, and the last
 unfoldable pub decimal-in : ℕ → ℕ → List ℕ
@@ -49,6 +50,14 @@ entry-line s q v a n = line-of (decimal s) (decimal q ∷ value-word v ∷ actio
 abbrev pub start-line : (state goal value : ℕ) → List ℕ
 start-line s q v = line-of (bytes "start") (decimal s ∷ decimal q ∷ value-word v ∷ [])
 
--- the line of a refusal: the word refused and the refusal's figures, of which the first is its number
-abbrev pub refusal-line : List ℕ → List ℕ
-refusal-line figures = line-of (bytes "refused") (map decimal figures)
+-- 12 and 13 name a record, and no other number does
+abbrev pub names-record : Fault → Bool
+names-record f = eqb (f .number) 12 || eqb (f .number) 13
+
+-- the record that is named, if one is
+abbrev pub record-named : Fault → List ℕ
+record-named f = cond (names-record f) (f .«record» ∷ []) []
+
+-- the line of a refusal: the word refused, its number, and the record that it names
+abbrev pub refusal-line : Fault → List ℕ
+refusal-line f = line-of (bytes "refused") (map decimal (f .number ∷ record-named f))

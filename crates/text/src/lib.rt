@@ -1,9 +1,11 @@
 // Text put together in a buffer: bytes, words, numbers, and the lines that the programs print.
 // Each function puts its text in a line at a position and answers the position after it; what the line has no room for is left out.
-ghost use mathlib.Core.List.{[], _∷_, _++_};
-ghost use Rattle.rules.specs.Answers.{value-number, refusal-number};
+ghost use mathlib.Core.List.{[], _∷_, _++_, map};
+ghost use mathlib.Core.Path.{_≡_};
+ghost use Rattle.rules.specs.Answers.{value-number, refusal-fault};
 ghost use Rattle.text.specs.PutText.{PutText};
-ghost use Rattle.text.specs.Lines.{decimal, value-word, action-word, entry-line, start-line, refusal-line};
+ghost use Rattle.text.specs.Lines.{decimal, value-word, action-word, rest-of-line, entry-line, start-line};
+ghost use Rattle.text.specs.Lines.{names-record, record-named, refusal-line};
 use rules::answer::Refusal;
 use rules::answer::Value;
 
@@ -99,11 +101,35 @@ pub fn put_start(line: &mut [u8], at: usize, state: u32, goal: u32, value: Value
     put(line, at, b'\n')
 }
 
+fn names_record(why: Refusal) -> bool
+    ensures { λ r. ⌜ r ≡ names-record (refusal-fault why) ⌝ }
+{
+    let number = why.number();
+    if number == 12 {
+        return true;
+    }
+    number == 13
+}
+
+// The rest of a refusal's line: the record that is named, if one is.
+fn put_record(line: &mut [u8], at: usize, why: Refusal) -> usize
+    ensures { λ r. ⌜ PutText (now (line .entry)) at
+        (rest-of-line (map decimal (record-named (refusal-fault why))))
+        (now (line .exit)) r ⌝ }
+{
+    if names_record(why) {
+        let at = put(line, at, b' ');
+        let at = put_number(line, at, why.record());
+        return put(line, at, b'\n');
+    }
+    put(line, at, b'\n')
+}
+
 // The line of a refusal.
 pub fn put_refusal(line: &mut [u8], at: usize, why: Refusal) -> usize
-    ensures { λ r. ⌜ PutText (now (line .entry)) at (refusal-line (refusal-number why ∷ [])) (now (line .exit)) r ⌝ }
+    ensures { λ r. ⌜ PutText (now (line .entry)) at (refusal-line (refusal-fault why)) (now (line .exit)) r ⌝ }
 {
     let at = put_word(line, at, b"refused ");
     let at = put_number(line, at, why.number());
-    put(line, at, b'\n')
+    put_record(line, at, why)
 }

@@ -97,7 +97,7 @@ module _ {M : Type 1} (𝓤 : URA M) (H : Heap 𝓤) (A : Atoms 𝓤) (W : Given
 
   -- the reader with the cursor m
   abbrev h-at : ℕ → MoveReader
-  h-at m = record { job = h .job; refusal = h .refusal; at = m }
+  h-at m = record { job = h .job; answer = h .answer; at = m }
 
   abbrev at : List Val × Unit {0}
   at = (vptr b o ∷ [], tt)
@@ -113,7 +113,7 @@ module _ {M : Type 1} (𝓤 : URA M) (H : Heap 𝓤) (A : Atoms 𝓤) (W : Given
   L = T′.the-laws (α κ′)
 
   abbrev vh : Values (D .parts)
-  vh = (h .job, (h .refusal, (h .at, tt)))
+  vh = (h .job, (h .answer, (h .at, tt)))
 
   abbrev Own : Fml
   Own = B κ′ .own h (T′.lowered h ∷ [])

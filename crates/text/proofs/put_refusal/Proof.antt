@@ -1,4 +1,4 @@
--- `put_refusal` meets its contract: the word, the number and the line feed, one after another.
+-- `put_refusal` meets its contract: the word, the number and the rest, one after another.
 use borrow.Author.Needs.{needs}
 use Rattle.text.proofs.Putting.{put-then}
 use Rattle.text.proofs.put_refusal.Statement.{statement}
@@ -16,8 +16,8 @@ number-requires c κs = search needs
 put-number-requires : tie.Need-put-number-requires
 put-number-requires c κs = search needs
 
-put-requires : tie.Need-put-requires
-put-requires c κs = search needs
+put-record-requires : tie.Need-put-record-requires
+put-record-requires c κs = search needs
 
 same-length : tie.Need-same-length
 same-length c = search needs
@@ -27,7 +27,7 @@ returns c =
     let c3 = c .before .before in
     let c2 = c3 .before .before .before .before in
     let c1 = c2 .before .before .before .before .before in
-    put-then (c1 .put-word .ensures) (put-then (rw (c2 .before .number .ensures) at (c2 .put-number .ensures)) (c3 .put .ensures))
+    put-then (c1 .put-word .ensures) (put-then (rw (c2 .before .number .ensures) at (c2 .put-number .ensures)) (c3 .put-record .ensures))
 
 pub put-refusal-spec : {M : Type 1} → statement M
 put-refusal-spec =
@@ -37,6 +37,6 @@ put-refusal-spec =
     put-word-requires
     number-requires
     put-number-requires
-    put-requires
+    put-record-requires
     same-length
     returns)

@@ -1,7 +1,17 @@
--- `cabinet_plan` meets its contract: the number of what planning answers.
+-- `cabinet_plan` meets its contract: the number and the record of what planning answers.
+use Prim.Native.Nat.{ℕ}
+use mathlib.Core.List.{List}
+use mathlib.Core.Path.{_≡_, sym, ap₂, subst}
 use borrow.Author.Needs.{needs}
+use Rattle.rules.specs.Fault.{Fault, with-record}
+use Rattle.rules.specs.Calls.{Planning}
 use Rattle.cabinet.proofs.calls.cabinet_plan.Statement.{statement}
 use Rattle.cabinet.proofs.calls.cabinet_plan.Tie as tie
+
+-- the number and the record are those of the answer
+by-figures : {b before after : List ℕ} {f : Fault} {n k : ℕ} → Planning b before f after → n ≡ f .number → k ≡ f .«record»
+    → Planning b before (with-record n k) after
+by-figures {b} {before} {after} p e g = subst (λ (f : Fault). Planning b before f after) (ap₂ with-record (sym e) (sym g)) p
 
 plan-requires : tie.Need-plan-requires
 plan-requires c κs = search needs
@@ -12,6 +22,9 @@ enum-known-why c = search needs
 number-requires : tie.Need-number-requires
 number-requires c κs = search needs
 
+record-requires : tie.Need-record-requires
+record-requires c κs = search needs
+
 enum-told : tie.Need-enum-told
 enum-told c = search needs
 
@@ -20,9 +33,10 @@ same-length c = search needs
 
 returns : tie.Need-returns
 returns c =
-    let d = c .before .before in
+    let r = c .before in
+    let d = r .before .before in
     let p = rw (d .why .given .1) at (d .before .before .before .before .plan .ensures) in
-    rw (← c .number .ensures) at p
+    by-figures p (r .number .ensures) (c .«record» .ensures)
 
 same-length-2 : tie.Need-same-length-2
 same-length-2 c = search needs
@@ -37,6 +51,7 @@ cabinet-plan-spec =
     plan-requires
     enum-known-why
     number-requires
+    record-requires
     enum-told
     same-length
     returns

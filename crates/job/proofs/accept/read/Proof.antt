@@ -3,12 +3,21 @@ use borrow.Author.Needs.{needs}
 use borrow.Author.Tests.{not-true, not-false}
 use mathlib.Core.Bool.{true}
 use mathlib.Core.List.{List}
-use mathlib.Core.Path.{_≡_, sym, _∙_}
+use mathlib.Core.Logic.{_≢_}
+use mathlib.Core.Path.{_≡_, sym, ap, _∙_}
 use Prim.Native.Nat.{ℕ}
-use Rattle.rules.specs.Bytes.{said, contents, counts, labels, moves}
-use Rattle.rules.proofs.Numbers.{numbers, refusal-0}
+use native.Mathlib.Omega.{arith}
+use Rattle.rules.specs.Fault.{Fault}
+use Rattle.rules.specs.Bytes.{said, contents, counts, labels, whole, records-fault}
+use Rattle.rules.specs.Answers.{refusal-fault}
+use Rattle.rules.proofs.Judged.{whole-iff}
+use Rattle.rules.proofs.Faults.{records-good-iff}
+use Rattle.rules.proofs.Figures.{refusal-some}
+use Rattle.rules.proofs.Numbers.{RecordsGood, numbers, refusal-0, records-said}
 use Rattle.job.specs.Layout.{Laid, in-ranges}
-use Rattle.job.proofs.Readings.{refuses, accepts}
+use Rattle.job.specs.Reading.{verdict-fault}
+use Rattle.job.specs.declared.layout.Layout.{Layout}
+use Rattle.job.proofs.Readings.{refuses, refuses-plainly, accepts}
 use Rattle.job.proofs.accept.read.Statement.{statement}
 use Rattle.job.proofs.accept.read.Tie as tie
 
@@ -31,13 +40,27 @@ counted c = rw (c .before .before .layout-of .ensures) at (ranged c)
 labelled : (c : tie.Else4) → labels (now-of (c .before .before .before .before)) ≡ true
 labelled c = sym (c .before .labels-fit .ensures) ∙ not-false _ (c .if4 .left)
 
-moved : (c : tie.Else5) → moves (now-of (c .before .before .before .before .before .before)) ≡ true
-moved c = sym (c .before .moves-fit .ensures) ∙ not-false _ (c .if5 .left)
+wholly : (c : tie.Else5) → whole (now-of (c .before .before .before .before .before .before)) ≡ true
+wholly c = sym (c .before .moves-whole .ensures) ∙ not-false _ (c .if5 .left)
+
+-- what the pass over the records finds, over the bytes
+judged : (c : tie.After-judge-records)
+    → let b = now-of (c .before .before .before .before .before .before .before) in
+    verdict-fault (c .judge-records .result) ≡ records-fault (said b) (said b .records)
+judged c =
+    let d = c .before .before .before .before .before .before .before in
+    c .judge-records .ensures ∙ ap (λ (l : Layout). records-fault (said (now-of d)) (l .records)) (laid d .is-layout)
+
+recorded : (c : tie.After-enum-told) → RecordsGood (now-of (c .before .before .before .before .before .before .before .before .before))
+recorded c =
+    let b = now-of (c .before .before .before .before .before .before .before .before .before) in
+    records-good-iff (said b) .0
+    (ap (λ (f : Fault). f .number) (sym (judged (c .before .before)) ∙ ap verdict-fault (c .enum-told .given .1)))
 
 returns : tie.Need-returns
 returns c =
     let b = c .before .before .args .job .now in
-    sym (refuses b 0 (numbers b .is-1 .1 (c .if1 .taken)))
+    sym (refuses-plainly b 0 (omega arith) (numbers b .is-1 .1 (c .if1 .taken)))
 
 contents-fit-requires : tie.Need-contents-fit-requires
 contents-fit-requires c κs = search needs
@@ -46,7 +69,10 @@ returns-2 : tie.Need-returns-2
 returns-2 c =
     let o = c .before in
     let b = o .before .before .before .args .job .now in
-    sym (refuses b 1 (numbers b .is-2 .1 (o .before .if1 .left, sym (o .contents-fit .ensures) ∙ not-true _ (c .if2 .taken))))
+    sym (refuses-plainly b 1 (omega arith) (numbers b .is-2 .1 (
+      o .before .if1 .left,
+      sym (o .contents-fit .ensures) ∙ not-true _ (c .if2 .taken),
+    )))
 
 layout-of-requires : tie.Need-layout-of-requires
 layout-of-requires c κs = (c .before .before .if1 .left, ordered c)
@@ -60,7 +86,7 @@ returns-3 c =
     let b = now-of d in
     let h = laid d in
     let fails = rw (h .is-layout) at (sym (c .before .counts-fit .ensures) ∙ not-true _ (c .if3 .taken)) in
-    sym (refuses b 2 (numbers b .is-3 .1 (h .long, (h .in-order, fails))))
+    sym (refuses-plainly b 2 (omega arith) (numbers b .is-3 .1 (h .long, (h .in-order, fails))))
 
 labels-fit-requires : tie.Need-labels-fit-requires
 labels-fit-requires c κs = laid (c .before .before)
@@ -71,13 +97,13 @@ returns-4 c =
     let d = e .before .before in
     let b = now-of d in
     let h = laid d in
-    sym (refuses b 3 (numbers b .is-4 .1 (
+    sym (refuses-plainly b 3 (omega arith) (numbers b .is-4 .1 (
       h .long,
       (h .in-order, (counted e, sym (c .before .labels-fit .ensures) ∙ not-true _ (c .if4 .taken))),
     )))
 
-moves-fit-requires : tie.Need-moves-fit-requires
-moves-fit-requires c κs = laid (c .before .before .before .before)
+moves-whole-requires : tie.Need-moves-whole-requires
+moves-whole-requires c κs = laid (c .before .before .before .before)
 
 returns-5 : tie.Need-returns-5
 returns-5 c =
@@ -86,30 +112,64 @@ returns-5 c =
     let d = e .before .before in
     let b = now-of d in
     let h = laid d in
-    sym (refuses b 4 (numbers b .is-5 .1 (
+    sym (refuses-plainly b 4 (omega arith) (numbers b .is-5 .1 (
       h .long,
-      (h .in-order, (counted e, (labelled g, sym (c .before .moves-fit .ensures) ∙ not-true _ (c .if5 .taken)))),
+      (h .in-order, (counted e, (labelled g, sym (c .before .moves-whole .ensures) ∙ not-true _ (c .if5 .taken)))),
     )))
 
-goal-fits-requires : tie.Need-goal-fits-requires
-goal-fits-requires c κs = (laid (c .before .before .before .before .before .before), ranged (c .before .before .before .before))
+judge-records-requires : tie.Need-judge-records-requires
+judge-records-requires c κs =
+    let h = laid (c .before .before .before .before .before .before) in
+    (h, rw (h .is-layout) (omega (arith, whole-iff (now-of (c .before .before .before .before .before .before)) .0 (wholly c))))
 
+enum-known-why : tie.Need-enum-known-why
+enum-known-why c = search needs
+
+enum-told : tie.Need-enum-told
+enum-told c = search needs
+
+goal-fits-requires : tie.Need-goal-fits-requires
+goal-fits-requires c κs =
+    let m = c .before .before .before in
+    (laid (m .before .before .before .before .before .before), ranged (m .before .before .before .before))
+
+-- below: t is after the records are judged good, and m before it
 returns-6 : tie.Need-returns-6
 returns-6 c =
-    let m = c .before .before in
+    let t = c .before .before in
+    let m = t .before .before .before in
     let g = m .before .before in
     let e = g .before .before in
     let d = e .before .before in
     let b = now-of d in
     let h = laid d in
-    sym (refuses b 5 (numbers b .is-6 .1 (
+    sym (refuses-plainly b 5 (omega arith) (numbers b .is-6 .1 (
       h .long,
-      (h .in-order, (counted e, (labelled g, (moved m, sym (c .before .goal-fits .ensures) ∙ not-true _ (c .if6 .taken))))),
+      (
+        h .in-order,
+        (counted e, (labelled g, (wholly m, (recorded t, sym (c .before .goal-fits .ensures) ∙ not-true _ (c .if6 .taken))))),
+      ),
     )))
 
 returns-7 : tie.Need-returns-7
 returns-7 c =
-    let m = c .before .before in
+    let o = c .before .before .before in
+    let m = o .before in
+    let g = m .before .before in
+    let e = g .before .before in
+    let d = e .before .before in
+    let b = now-of d in
+    let h = laid d in
+    let why = c .before .why .given .0 .0 in
+    let f : refusal-fault why ≡ records-fault (said b) (said b .records) = ap verdict-fault (sym (c .before .why .given .1)) ∙ judged o in
+    let some : refusal-fault why .number ≢ 0 = λ z. omega (arith, refusal-some why .1) in
+    let bad : records-fault (said b) (said b .records) .number ≢ 0 = λ z. some (ap (λ (x : Fault). x .number) f ∙ z) in
+    sym (refuses b (refusal-fault why) some (records-said b (h .long) (h .in-order) (counted e) (labelled g) (wholly m) bad ∙ sym f))
+
+returns-8 : tie.Need-returns-8
+returns-8 c =
+    let t = c .before .before in
+    let m = t .before .before .before in
     let g = m .before .before in
     let e = g .before .before in
     let d = e .before .before in
@@ -118,7 +178,10 @@ returns-7 c =
     rw (h .is-layout)
     (sym (accepts b (refusal-0 b .1 (
       h .long,
-      (h .in-order, (counted e, (labelled g, (moved m, sym (c .before .goal-fits .ensures) ∙ not-false _ (c .if6 .left))))),
+      (
+        h .in-order,
+        (counted e, (labelled g, (wholly m, (recorded t, sym (c .before .goal-fits .ensures) ∙ not-false _ (c .if6 .left))))),
+      ),
     ))))
 
 pub read-spec : {M : Type 1} → statement M
@@ -133,8 +196,12 @@ read-spec =
     returns-3
     labels-fit-requires
     returns-4
-    moves-fit-requires
+    moves-whole-requires
     returns-5
+    judge-records-requires
+    enum-known-why
+    enum-told
     goal-fits-requires
     returns-6
-    returns-7)
+    returns-7
+    returns-8)

@@ -1,7 +1,7 @@
 -- `plan` meets its contract: what reading refuses is refused, and what it reads is planned.
-use Prim.Native.Nat.{ℕ}
 use mathlib.Core.Path.{sym, ap, _∙_, subst}
 use borrow.Author.Needs.{needs}
+use Rattle.rules.specs.Fault.{Fault}
 use Rattle.rules.specs.Calls.{Planning, refused}
 use Rattle.job.specs.Reading.{reading-figures}
 use Rattle.job.proofs.Readings.{read-fit, read-refused, read-refused-some}
@@ -27,7 +27,7 @@ returns c =
     let r = c .before .r .given .0 .0 in
     let e = ap reading-figures (sym (c .before .r .given .1)) ∙ c .before .before .before .read .ensures in
     let before = c .before .before .before .before .before .before .args .plan .now in
-    subst (λ (n : ℕ). Planning b before n before) (read-refused b r e) (refused (read-refused-some b r e))
+    subst (λ (f : Fault). Planning b before f before) (read-refused b r e) (refused (read-refused-some b r e))
 
 same-length : tie.Need-same-length
 same-length c = search needs
