@@ -20,7 +20,7 @@ enum { INPUT, DUE, LEND, PLAN, START, FOLLOW, ADVICE, TIME };
 
 /* A line: what to do, the side of the fence (1: buffers begin after it), how many bytes come after it, the call's figures, the answer that is due. */
 static struct {
-  uint32_t what, side, length, figures[4], due[4];
+  uint32_t what, side, length, figures[4], due[5];
 } line;
 
 /* Memory between two fences. No page is shared with another process: an emulator slows every call down once one is. */
@@ -95,20 +95,20 @@ static void same_bytes(const uint8_t *found, const uint8_t *due, size_t count, l
   wrong(how, byte, should, 1);
 }
 
-static uint32_t plan_into(const uint8_t *job, uint32_t room) {
+static cabinet_planned plan_into(const uint8_t *job, uint32_t room) {
   uint8_t *plan = place(&plans, room);
   size_t at = (size_t)(plan - plans.inside), end = at + due_len;
   const uint8_t *before = pool + line.figures[1] % PLAN_SIZE;
   int good = line.due[0] == CABINET_OK;
   set_rights(&plans, good ? PROT_READ | PROT_WRITE : PROT_READ);
   if (good) memcpy(plans.inside, before, PLAN_SIZE);
-  uint32_t refusal = cabinet_plan(job, job_len, plan, room).refusal;
-  if (good && refusal == CABINET_OK) {
+  cabinet_planned answer = cabinet_plan(job, job_len, plan, room);
+  if (good && answer.refusal == CABINET_OK) {
     same_bytes(plans.inside, before, at, -(long)at);
     same_bytes(plan, due_plan, due_len, 0);
     same_bytes(plans.inside + end, before + end, PLAN_SIZE - end, (long)due_len);
   }
-  return refusal;
+  return answer;
 }
 
 /* The time of so many calls of planning, in nanoseconds. */
@@ -125,17 +125,18 @@ static void say_time(const uint8_t *job, uint32_t times) {
 static void call(void) {
   const uint8_t *job = place(&jobs, job_len), *plan = place(&plans, lent_len);
   const uint32_t *f = line.figures;
-  uint32_t answer[4] = {0, 0, 0, 0};
+  uint32_t answer[5] = {0, 0, 0, 0, 0};
   if (line.what == PLAN) {
-    answer[0] = plan_into(job, f[0]);
+    cabinet_planned planned = plan_into(job, f[0]);
+    answer[0] = planned.refusal, answer[1] = planned.record;
   } else if (line.what == ADVICE) {
     cabinet_advised say = cabinet_advice(job, job_len, plan, lent_len, f[0], f[1]);
-    answer[0] = say.refusal, answer[1] = say.value, answer[2] = say.action, answer[3] = say.number;
+    answer[0] = say.refusal, answer[1] = say.value, answer[2] = say.action, answer[3] = say.number, answer[4] = say.record;
   } else {
     cabinet_moved to = line.what == START ? cabinet_start(job, job_len) : cabinet_follow(job, job_len, f[0], f[1], f[2], f[3]);
-    answer[0] = to.refusal, answer[1] = to.state, answer[2] = to.goal;
+    answer[0] = to.refusal, answer[1] = to.state, answer[2] = to.goal, answer[3] = to.record;
   }
-  if (memcmp(answer, line.due, sizeof answer) != 0) wrong("answer", answer, line.due, 4);
+  if (memcmp(answer, line.due, sizeof answer) != 0) wrong("answer", answer, line.due, 5);
   calls++, all_calls++;
 }
 

@@ -1,5 +1,6 @@
 //! The calls to make, with the answers that are due, written as lines for the caller: a C program, linked with the library, that makes them.
 
+use crate::oracle::Answer;
 use crate::report::Call;
 use std::io::{BufRead, BufReader, BufWriter, Read, Write};
 use std::process::{Child, ChildStdout, Command, Stdio};
@@ -91,9 +92,9 @@ impl Cases {
         Cases { caller: None, to: Box::new(std::io::sink()), calls: Vec::new(), made: 0, broken: false }
     }
 
-    fn line(&mut self, what: What, side: Side, bytes: &[u8], figures: [u32; 4], due: [u32; 4]) {
+    fn line(&mut self, what: What, side: Side, bytes: &[u8], figures: [u32; 4], due: Answer) {
         let head = [what as u32, u32::from(side == Side::Begin), bytes.len() as u32];
-        let mut text = [0; 44];
+        let mut text = [0; 48];
         for (word, place) in head.iter().chain(&figures).chain(&due).zip(text.chunks_mut(4)) {
             place.copy_from_slice(&word.to_le_bytes());
         }
@@ -101,20 +102,20 @@ impl Cases {
     }
 
     pub fn input(&mut self, number: u64, side: Side, job: &[u8]) {
-        self.line(What::Input, side, job, [number as u32, (number >> 32) as u32, 0, 0], [0; 4]);
+        self.line(What::Input, side, job, [number as u32, (number >> 32) as u32, 0, 0], [0; 5]);
     }
 
     /// The plan that planning has to leave.
     pub fn due(&mut self, plan: &[u8]) {
-        self.line(What::Due, Side::Begin, plan, [0; 4], [0; 4]);
+        self.line(What::Due, Side::Begin, plan, [0; 4], [0; 5]);
     }
 
     /// The bytes that advice gets as its plan.
     pub fn lend(&mut self, side: Side, plan: &[u8]) {
-        self.line(What::Lend, side, plan, [0; 4], [0; 4]);
+        self.line(What::Lend, side, plan, [0; 4], [0; 5]);
     }
 
-    pub fn call(&mut self, call: Call, due: [u32; 4]) {
+    pub fn call(&mut self, call: Call, due: Answer) {
         let (what, side, figures) = match call {
             Call::Plan { plan_len, before, side } => (What::Plan, side, [plan_len as u32, before, 0, 0]),
             Call::Start { side } => (What::Start, side, [0; 4]),
@@ -128,7 +129,7 @@ impl Cases {
 
     /// The seconds that so many calls of planning take.
     pub fn time(&mut self, side: Side, times: u32) -> f64 {
-        self.line(What::Time, side, &[], [times, 0, 0, 0], [0; 4]);
+        self.line(What::Time, side, &[], [times, 0, 0, 0], [0; 5]);
         let mut text = String::new();
         let answers = &mut self.caller.as_mut().expect("a caller").answers;
         self.to.flush().and_then(|()| answers.read_line(&mut text)).expect("the caller answers");

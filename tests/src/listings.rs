@@ -31,7 +31,8 @@ impl Seen {
         for line in text.lines() {
             let words: Vec<&str> = line.split(' ').collect();
             match words[..] {
-                ["refused", ..] => self.words.insert(line.to_string()),
+                ["refused", number] => self.words.insert(format!("refused {number}")),
+                ["refused", number, record] => self.words.insert(format!("refused {number} {}", record.len() > 1)),
                 ["start", _, _, value] => self.words.insert(format!("start {value}")),
                 [_, _, value, action, number] => {
                     self.number = self.number.max(number.parse().unwrap_or(0));
@@ -55,7 +56,8 @@ impl Seen {
             "start winning",
         ];
         let refusals = (1..=6).map(|refusal| format!("refused {refusal}"));
-        let words = values.map(String::from).into_iter().chain(refusals);
+        let records = [12, 13].map(|refusal| [true, false].map(|long| format!("refused {refusal} {long}"))).concat();
+        let words = values.map(String::from).into_iter().chain(refusals).chain(records);
         let all_words = words.into_iter().all(|word| self.words.contains(&word));
         self.largest_plan
             && self.number > 999

@@ -71,7 +71,7 @@ fn measure(cases: &mut Cases, name: &'static str, job: &[u8]) -> Line {
     let mut plan = vec![0; 16_384];
     cases.due(&oracle.plan);
     cases.input(0, Side::End, job);
-    cases.call(Call::Plan { plan_len: plan.len(), before: 0, side: Side::End }, [0; 4]);
+    cases.call(Call::Plan { plan_len: plan.len(), before: 0, side: Side::End }, [0; 5]);
     for voice in [by_plain, by_oracle] as [Voice; 2] {
         plan.fill(0xAA);
         voice(cases, job, &mut plan, 1);

@@ -76,7 +76,8 @@ pub fn read(job: &[u8]) -> Result<Job<'_>, u32> {
     let (moves, rest) = moves.as_chunks::<3>();
     check(rest.is_empty() && moves.len() <= 4_096, 5)?;
     let inside = |one: &[u8; 3]| one[0] < states && one[1] < actions && one[2] < states;
-    check(moves.iter().all(inside) && moves.is_sorted_by(|one, other| one < other), 5)?;
+    let bad = (0..moves.len()).find(|&at| !inside(&moves[at]) || at > 0 && moves[at - 1] >= moves[at]);
+    check(bad.is_none(), bad.map_or(0, |at| if inside(&moves[at]) { 13 } else { 12 }))?;
     let table = usize::from(goals) << propositions;
     check(goal.len() == table + usize::from(goals), 6)?;
     let (next, marks) = goal.split_at(table);

@@ -20,8 +20,8 @@ pub fn known() {
     let early_text = "start 0 1 losing\n0 0 winning - 0\n0 1 losing - 0\n";
     expect("listing of Early", listing(&early()) == early_text);
     let plate = Oracle::new(&one_plate());
-    expect("room for One plate", plate.plan(47) == ROOM && plate.plan(48) == 0);
-    for (index, (job, refusal)) in edges().iter().enumerate() {
-        expect(&format!("edge {index}"), Oracle::new(job).refusal() == *refusal);
+    expect("room for One plate", plate.plan(47)[0] == ROOM && plate.plan(48)[0] == 0);
+    for (index, (job, refused)) in edges().iter().enumerate() {
+        expect(&format!("edge {index}"), Oracle::new(job).refused() == *refused);
     }
 }

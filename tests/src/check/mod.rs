@@ -9,7 +9,7 @@ mod tally;
 
 use crate::brute;
 use crate::cases::{Cases, Side};
-use crate::oracle::{Job, Oracle};
+use crate::oracle::{Answer, Job, Oracle};
 use crate::random::Random;
 use crate::report::{self, Call, Input};
 pub use known::known;
@@ -31,7 +31,7 @@ struct Trial<'a> {
 }
 
 impl Trial<'_> {
-    fn call(&mut self, call: Call, due: [u32; 4]) {
+    fn call(&mut self, call: Call, due: Answer) {
         self.tally.answer(due[0]);
         self.cases.call(call, due);
     }

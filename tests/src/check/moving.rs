@@ -2,12 +2,14 @@
 
 use super::figures::{figure, odd};
 use super::Trial;
+use crate::oracle::Answer;
 use crate::report::Call;
 
 impl Trial<'_> {
     pub fn moving(&mut self) {
-        let [refusal, state, goal] = self.oracle.start();
-        self.call(Call::Start { side: self.side }, [refusal, state, goal, 0]);
+        let due = self.oracle.start();
+        let [_, state, goal, ..] = due;
+        self.call(Call::Start { side: self.side }, due);
         self.play([state, goal]);
         self.play_from_anywhere();
         for _ in 0..8 {
@@ -15,9 +17,9 @@ impl Trial<'_> {
         }
     }
 
-    fn follow(&mut self, [state, goal]: [u32; 2], action: u32, outcome: u32) -> [u32; 3] {
+    fn follow(&mut self, [state, goal]: [u32; 2], action: u32, outcome: u32) -> Answer {
         let due = self.oracle.follow([state, goal], action, outcome);
-        self.call(Call::Follow { state, goal, action, outcome, side: self.side }, [due[0], due[1], due[2], 0]);
+        self.call(Call::Follow { state, goal, action, outcome, side: self.side }, due);
         due
     }
 
@@ -31,7 +33,7 @@ impl Trial<'_> {
                 return;
             }
             let one = self.random.pick(open);
-            let [_, state, goal] = self.follow(place, one.action as u32, one.outcome as u32);
+            let [_, state, goal, ..] = self.follow(place, one.action as u32, one.outcome as u32);
             place = [state, goal];
         }
     }

@@ -40,6 +40,6 @@ impl Trial<'_> {
 
     fn plan_into(&mut self, room: usize) {
         let before = self.random.word() as u32;
-        self.call(Call::Plan { plan_len: room, before, side: self.side }, [self.oracle.plan(room), 0, 0, 0]);
+        self.call(Call::Plan { plan_len: room, before, side: self.side }, self.oracle.plan(room));
     }
 }

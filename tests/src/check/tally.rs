@@ -1,6 +1,6 @@
 //! Counts what a run has tried, so that its end can say how much was covered.
 
-use crate::oracle::{Oracle, WINNING};
+use crate::oracle::{Oracle, Refused, FIELD, ORDER, WINNING};
 use std::collections::{BTreeMap, BTreeSet};
 
 #[derive(Default)]
@@ -8,15 +8,17 @@ pub struct Tally {
     inputs: u64,
     kinds: BTreeMap<&'static str, u64>,
     /// Refusals of jobs, 0 for the good ones.
-    jobs: [u64; 7],
+    jobs: [u64; 14],
     /// Answers of all calls by refusal.
-    answers: [u64; 12],
+    answers: [u64; 14],
     /// Entries: losing, pending, winning but not accepted, accepted.
     entries: [u64; 4],
     largest: usize,
     labels_possible: BTreeSet<usize>,
     goals: BTreeSet<usize>,
     pub brute: u64,
+    /// The bad records that were named, with the number that named them.
+    records: BTreeSet<(u32, u32)>,
 }
 
 impl Tally {
@@ -24,6 +26,10 @@ impl Tally {
         self.inputs += 1;
         *self.kinds.entry(kind).or_default() += 1;
         self.jobs[oracle.refusal() as usize] += 1;
+        let Refused { number, record } = oracle.refused();
+        if [FIELD, ORDER].contains(&number) {
+            self.records.insert((number, record));
+        }
         if let Ok(job) = &oracle.job {
             self.labels_possible.insert(job.labels_possible);
             self.goals.insert(job.goals);
@@ -41,15 +47,23 @@ impl Tally {
         }
     }
 
+    /// Whether this number has named such a record.
+    fn bad(&self, number: u32, such: impl Fn(u32) -> bool) -> bool {
+        self.records.iter().any(|&(by, record)| by == number && such(record))
+    }
+
     /// Whether every answer, every value and every count of propositions and goal states has come up.
     pub fn covered(&self) -> bool {
         let answers = self.answers.iter().enumerate().filter(|(_, &count)| count > 0);
         let answers: Vec<usize> = answers.map(|(refusal, _)| refusal).collect();
-        answers == [0, 1, 2, 3, 4, 5, 6, 7, 9, 10, 11]
+        answers == [0, 1, 2, 3, 4, 5, 6, 7, 9, 10, 11, 12, 13]
             && self.entries.iter().all(|&count| count > 0)
             && self.labels_possible.len() == 7
             && self.goals.len() == 32
             && self.brute > 0
+            && [FIELD, ORDER].iter().all(|&number| self.bad(number, |record| record > 99))
+            && self.bad(FIELD, |record| record == 0)
+            && self.bad(ORDER, |record| record == 1)
     }
 
     pub fn print(&self) {
@@ -69,6 +83,7 @@ impl Tally {
         println!("largest number: {}", self.largest);
         let (propositions, goals) = (self.labels_possible.len(), self.goals.len());
         println!("good jobs had {propositions} of 7 counts of propositions, {goals} of 32 counts of goal states");
+        println!("bad records named: {}", self.records.len());
         println!("oracle compared with the meaning itself: {} jobs", self.brute);
         println!("{} inputs agree", self.inputs);
     }

@@ -1,6 +1,7 @@
 //! The jobs that the rules give in full, and the edges that they name, with the refusal due to each.
 
 use super::parts::Parts;
+use crate::oracle::{Refused, FIELD, MOVES, ORDER};
 
 /// One plate: drawer, stage, just exposed, broken.
 pub fn one_plate() -> Vec<u8> {
@@ -52,7 +53,8 @@ fn many_moves(count: usize) -> Vec<u8> {
     (0..count).flat_map(record).collect()
 }
 
-pub fn edges() -> Vec<(Vec<u8>, u32)> {
+/// The edges that the rules name and others, each with the number that is due, 0 for a good job.
+fn numbered() -> Vec<(Vec<u8>, u32)> {
     let moves = |moves: Vec<u8>| Parts { moves, ..blank(128, 16, 0, 1) }.bytes();
     let label = |label: u8| Parts { labels: vec![label, 0], ..blank(2, 1, 3, 1) }.bytes();
     let wide_offset = Parts { labels: vec![0; 65_535 - 25], ..blank(1, 1, 0, 1) };
@@ -73,9 +75,41 @@ pub fn edges() -> Vec<(Vec<u8>, u32)> {
         (label(7), 0),
         (label(8), 4),
         (moves(many_moves(2)), 0),
-        (moves(vec![1, 1, 1, 1, 1, 1]), 5),
         (moves(many_moves(4_096)), 0),
         (moves(many_moves(4_097)), 5),
         (wide_offset.bytes(), 4),
     ]
+}
+
+/// Records of which one is the first bad one, with the number and the record that are due.
+fn bad_records() -> Vec<(Vec<u8>, u32, u32)> {
+    let job = |moves: Vec<u8>| Parts { moves, ..blank(128, 16, 0, 1) }.bytes();
+    let spoilt = |at: usize, record: [u8; 3]| {
+        let mut moves = many_moves(4_096);
+        moves[3 * at..3 * at + 3].copy_from_slice(&record);
+        moves
+    };
+    let no_goal = Parts { moves: vec![0, 0, 1, 0, 0, 0], goal: vec![9], ..blank(2, 1, 0, 1) };
+    vec![
+        (job(vec![1, 1, 1, 1, 1, 1]), ORDER, 1),
+        (job(vec![128, 0, 0]), FIELD, 0),
+        (job(vec![0, 16, 0]), FIELD, 0),
+        (job(vec![0, 0, 128]), FIELD, 0),
+        (job(vec![0, 0, 0, 0, 16, 0, 0, 0, 0]), FIELD, 1),
+        (job(vec![0, 0, 1, 0, 0, 0, 0, 16, 0]), ORDER, 1),
+        (job(vec![0, 1, 0, 0, 0, 128]), FIELD, 1),
+        (job(spoilt(4_095, [1, 15, 128])), FIELD, 4_095),
+        (job(spoilt(4_095, [1, 15, 126])), ORDER, 4_095),
+        (job(spoilt(2_000, [0, 0, 0])), ORDER, 2_000),
+        (no_goal.bytes(), ORDER, 1),
+        (job([spoilt(7, [255, 255, 255]), vec![0; 3]].concat()), MOVES, 0),
+        (job(vec![255; 4]), MOVES, 0),
+    ]
+}
+
+/// Every edge with the refusal that is due.
+pub fn edges() -> Vec<(Vec<u8>, Refused)> {
+    let numbered = numbered().into_iter().map(|(job, number)| (job, Refused::from(number)));
+    let recorded = bad_records().into_iter().map(|(job, number, record)| (job, Refused { number, record }));
+    numbered.chain(recorded).collect()
 }

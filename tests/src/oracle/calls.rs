@@ -46,40 +46,43 @@ impl Job {
     }
 }
 
-/// The refusal and then the figures, which are 0 when it is refused.
-fn moved(answer: Result<[u32; 2], u32>) -> [u32; 3] {
+/// The figures of an answer in the order in which its struct has them, the refusal first; those that it has not are 0.
+pub type Answer = [u32; 5];
+
+fn moved(answer: Result<[u32; 2], Refused>) -> Answer {
     match answer {
-        Ok([state, goal]) => [0, state, goal],
-        Err(refusal) => [refusal, 0, 0],
+        Ok([state, goal]) => [0, state, goal, 0, 0],
+        Err(Refused { number, record }) => [number, 0, 0, record, 0],
     }
 }
 
 impl Oracle {
-    fn job(&self) -> Result<&Job, u32> {
-        self.job.as_ref().map_err(|&refusal| refusal)
+    fn job(&self) -> Result<&Job, Refused> {
+        self.job.as_ref().map_err(|&refused| refused)
     }
 
-    /// The refusal of planning into a buffer of this length.
-    pub fn plan(&self, room: usize) -> u32 {
-        match self.refusal() {
-            0 if room < self.plan.len() => ROOM,
-            refusal => refusal,
-        }
+    /// What planning into a buffer of this length answers.
+    pub fn plan(&self, room: usize) -> Answer {
+        let refused = match self.refused() {
+            Refused { number: 0, .. } if room < self.plan.len() => ROOM.into(),
+            refused => refused,
+        };
+        [refused.number, refused.record, 0, 0, 0]
     }
 
-    pub fn start(&self) -> [u32; 3] {
+    pub fn start(&self) -> Answer {
         let start = |job: &Job| [job.first_state, job.goal_after(job.first_goal, job.first_state)];
         moved(self.job().map(|job| start(job).map(|figure| figure as u32)))
     }
 
-    pub fn follow(&self, place: [u32; 2], action: u32, outcome: u32) -> [u32; 3] {
-        moved(self.job().and_then(|job| job.follow(place, action, outcome)))
+    pub fn follow(&self, place: [u32; 2], action: u32, outcome: u32) -> Answer {
+        moved(self.job().and_then(|job| Ok(job.follow(place, action, outcome)?)))
     }
 
-    pub fn advice(&self, plan: &[u8], state: u32, goal: u32) -> [u32; 4] {
-        match self.job().and_then(|job| job.advice(plan, state, goal)) {
-            Ok([value, action, number]) => [0, value, action, number],
-            Err(refusal) => [refusal, 0, 0, 0],
+    pub fn advice(&self, plan: &[u8], state: u32, goal: u32) -> Answer {
+        match self.job().and_then(|job| Ok(job.advice(plan, state, goal)?)) {
+            Ok([value, action, number]) => [0, value, action, number, 0],
+            Err(Refused { number, record }) => [number, 0, 0, 0, record],
         }
     }
 }

@@ -1,6 +1,6 @@
 //! The text of the listing program for a job.
 
-use super::{Entry, Job, Oracle, LOSING, PENDING};
+use super::{Entry, Job, Oracle, Refused, FIELD, LOSING, ORDER, PENDING};
 
 /// As many bytes as the listing program takes in.
 pub const TAKEN: usize = 16_384;
@@ -23,9 +23,12 @@ pub fn listing(input: &[u8]) -> String {
     let oracle = Oracle::new(&input[..input.len().min(TAKEN)]);
     let job = match &oracle.job {
         Ok(job) => job,
-        Err(refusal) => return format!("refused {refusal}\n"),
+        Err(Refused { number, record }) if [FIELD, ORDER].contains(number) => {
+            return format!("refused {number} {record}\n")
+        }
+        Err(Refused { number, .. }) => return format!("refused {number}\n"),
     };
-    let [_, state, goal] = oracle.start();
+    let [_, state, goal, ..] = oracle.start();
     let value = oracle.entries[job.place(state as usize, goal as usize)].value;
     let mut text = format!("start {state} {goal} {}\n", word(value));
     for (place, entry) in oracle.entries.iter().enumerate() {

@@ -7,6 +7,7 @@ mod read;
 mod refusal;
 mod waves;
 
+pub use calls::Answer;
 pub use listing::{listing, TAKEN};
 pub use plan::{entries, Entry, LOSING, PENDING, WINNING};
 pub use read::{read, Job};
@@ -14,7 +15,7 @@ pub use refusal::*;
 
 /// Everything that the calls answer on one string of job bytes.
 pub struct Oracle {
-    pub job: Result<Job, u32>,
+    pub job: Result<Job, Refused>,
     pub entries: Vec<Entry>,
     pub plan: Vec<u8>,
 }
@@ -27,8 +28,13 @@ impl Oracle {
         Oracle { job, entries, plan }
     }
 
-    /// The refusal of the job itself, 0 when it is good.
+    /// The refusal of the job itself with its record, both 0 when it is good.
+    pub fn refused(&self) -> Refused {
+        self.job.as_ref().err().copied().unwrap_or(Refused::from(0))
+    }
+
+    /// The number of that refusal.
     pub fn refusal(&self) -> u32 {
-        self.job.as_ref().err().copied().unwrap_or(0)
+        self.refused().number
     }
 }

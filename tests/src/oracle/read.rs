@@ -1,4 +1,4 @@
-//! Reads a job from bytes, or says which refusal from 1 to 6 comes first.
+//! Reads a job from bytes, or says which refusal of a job comes first.
 
 use super::refusal::*;
 use std::ops::Range;
@@ -92,15 +92,24 @@ fn read_labels(body: &[u8], states: usize, possible: usize) -> Result<Vec<usize>
     good.then_some(labels).ok_or(LABELS)
 }
 
-fn read_moves(body: &[u8], states: usize, actions: usize) -> Result<Vec<Move>, u32> {
+fn read_moves(body: &[u8], states: usize, actions: usize) -> Result<Vec<Move>, Refused> {
     if !body.len().is_multiple_of(3) || body.len() > 12_288 {
-        return Err(MOVES);
+        return Err(MOVES.into());
     }
     let record = |at: &[u8]| Move { state: at[0].into(), action: at[1].into(), outcome: at[2].into() };
     let moves: Vec<Move> = body.chunks(3).map(record).collect();
     let inside = |one: &Move| one.state < states && one.action < actions && one.outcome < states;
-    let good = moves.iter().all(inside) && moves.windows(2).all(|two| two[0] < two[1]);
-    good.then_some(moves).ok_or(MOVES)
+    for (record, one) in moves.iter().enumerate() {
+        let number = if !inside(one) {
+            FIELD
+        } else if record > 0 && moves[record - 1] >= *one {
+            ORDER
+        } else {
+            continue;
+        };
+        return Err(Refused { number, record: record as u32 });
+    }
+    Ok(moves)
 }
 
 /// The table of next goal states and the marks.
@@ -114,7 +123,7 @@ fn read_goal(body: &[u8], goals: usize, possible: usize) -> Result<(Vec<usize>, 
     good.then_some(read).ok_or(GOAL)
 }
 
-pub fn read(job: &[u8]) -> Result<Job, u32> {
+pub fn read(job: &[u8]) -> Result<Job, Refused> {
     let [counts, labels, moves, goal] = bodies(job)?;
     let [states, actions, propositions, goals, first_state, first_goal] = read_counts(counts)?;
     let labels_possible = 1 << propositions;

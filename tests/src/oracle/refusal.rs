@@ -1,4 +1,4 @@
-//! The numbers that say no and that a call can give.
+//! The numbers that say no and that a call can give, with the record that two of them name.
 
 pub const SHORT: u32 = 1;
 pub const CONTENTS: u32 = 2;
@@ -10,3 +10,18 @@ pub const ROOM: u32 = 7;
 pub const PLACE: u32 = 9;
 pub const ENTRY: u32 = 10;
 pub const OUTCOME: u32 = 11;
+pub const FIELD: u32 = 12;
+pub const ORDER: u32 = 13;
+
+/// Why a call says no; the record is 0 unless the number is FIELD or ORDER.
+#[derive(Clone, Copy, Debug, PartialEq, Eq)]
+pub struct Refused {
+    pub number: u32,
+    pub record: u32,
+}
+
+impl From<u32> for Refused {
+    fn from(number: u32) -> Refused {
+        Refused { number, record: 0 }
+    }
+}
