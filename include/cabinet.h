@@ -4,6 +4,10 @@
    winning, pending or losing, and writes a plan of four bytes a place into a buffer that you lend. You then find the starting place,
    ask the plan for advice, take the action, say which outcome was observed, and so on, until the goal is met or lost.
 
+   A state is marked busy by 128 added to its label: the arm is still at work there, and a run does not end there. The goal is met where the
+   goal state is final and the state is not busy. A final goal state in a busy state makes a place like any other: it has an action and a
+   number, or is lost where nothing is open. The goal's automaton reads the label without the mark.
+
    The library needs no heap, keeps nothing between calls, and takes every input: what is bad is refused by number, the first fault
    first. A refusal changes nothing in the plan buffer.
 
@@ -27,6 +31,9 @@ extern "C" {
 #define CABINET_JOB_MAX 14518
 #define CABINET_PLAN_MAX 16384
 
+/* What is added to the label of a busy state. */
+#define CABINET_BUSY 128
+
 /* Numbers that say no. The first in this order that applies is the answer, though 12 and 13 share one place, which the first bad record
    decides; 0 is success. */
 enum cabinet_refusal {
@@ -34,7 +41,7 @@ enum cabinet_refusal {
   CABINET_SHORT = 1,    /* the job is under 16 bytes */
   CABINET_CONTENTS = 2, /* an offset or end breaks the job's layout, or Counts is not 6 bytes long */
   CABINET_COUNTS = 3,   /* a count or a first number is out of range */
-  CABINET_LABELS = 4,   /* not one label a state, or a label of 2^P or more */
+  CABINET_LABELS = 4,   /* not one label a state, or a label that without its mark is 2^P or more */
   CABINET_MOVES = 5,    /* Moves is not whole records, or has more than 4,096 */
   CABINET_FIELD = 12,   /* a field of a record is out of range; `record` says which */
   CABINET_ORDER = 13,   /* a record does not come after the one before it, compared field by field; `record` says which */

@@ -14,7 +14,7 @@ pub fn tiny(job: &Job) -> bool {
 
 /// Whether some way of choosing reaches acceptance within so many moves against every outcome.
 fn wins_within(job: &Job, state: usize, goal: usize, moves: usize) -> bool {
-    if job.last[goal] {
+    if job.last[goal] && !job.busy[state] {
         return true;
     }
     let safe = |action: usize| {

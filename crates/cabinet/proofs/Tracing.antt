@@ -1,6 +1,7 @@
 -- The goal is over the whole run of calls: the goal state that a caller holds is what the automaton makes of the labels of the states that
 -- the answers named, the starting one included.
 use Prim.Native.Nat.{ℕ, zero, suc}
+use mathlib.Core.Bool.{not, _&&_}
 use mathlib.Core.List.{List}
 use mathlib.Core.Path.{_≡_, refl, sym, ap, _∙_, subst}
 use Rattle.game.specs.Game.{Play, begin, then, last}
@@ -61,6 +62,9 @@ module _ (b : List ℕ) where
       calls-traced =
           turns-read n o (begin (started b)) (started-reads (answered-before b c n o (begin (started b)) e)) e
 
+      -- the goal is met exactly when the automaton takes the trace and the state is not busy
       pub met-calls-traced : arena (said b) .accepted (at (last (turns b c o (begin (started b)) n)))
-          ≡ accepts (said b) (trace label-at (turns b c o (begin (started b)) n))
-      met-calls-traced = ap (said b .final) calls-traced
+          ≡ (accepts (said b) (trace label-at (turns b c o (begin (started b)) n))
+          && not (said b .busy (last (turns b c o (begin (started b)) n) .state)))
+      met-calls-traced =
+          ap (λ (q : ℕ). said b .final q && not (said b .busy (last (turns b c o (begin (started b)) n) .state))) calls-traced

@@ -1,10 +1,11 @@
-// What a job that was read says of a state, a goal state or a record. No other crate reads a byte of a job at an offset.
+// What a job that was read says of a state, a goal state, a place or a record. No other crate reads a byte of a job at an offset.
 ghost use mathlib.Core.Path.{_≡_};
 ghost use Prim.Native.Nat.{_<_};
-ghost use Rattle.rules.specs.Job.{entered, is-record};
+ghost use Rattle.rules.specs.Job.{place, entered, is-record, arena};
 ghost use Rattle.rules.specs.Bytes.{said};
 ghost use Rattle.job.specs.Layout.{Fit};
 ghost use Rattle.job.specs.Found.{FoundOf};
+use crate::body::BUSY;
 use crate::body::byte_at;
 use crate::body::labels_of;
 use crate::body::record_at;
@@ -12,7 +13,7 @@ use crate::layout::Layout;
 use rules::place::Move;
 use rules::place::Place;
 
-// The label of state s: of its byte the part that tells of the propositions, which is the whole.
+// The label of state s: of its byte the part that tells of the propositions, which is the whole but for the mark.
 fn label(job: &[u8], l: Layout, s: usize) -> usize
     requires { ⌜ Fit (now job) l ⌝ }
     requires { ⌜ s < l .states ⌝ }
@@ -48,13 +49,35 @@ pub fn place_entered(job: &[u8], l: Layout, q: usize, t: usize) -> Place
 }
 
 // Whether goal state q is final.
-pub fn is_final(job: &[u8], l: Layout, q: usize) -> bool
+fn is_final(job: &[u8], l: Layout, q: usize) -> bool
     requires { ⌜ Fit (now job) l ⌝ }
     requires { ⌜ q < l .goals ⌝ }
     ensures { λ r. ⌜ r ≡ said (now (job .entry)) .final q ⌝ }
 {
     let rows = l.goals * labels_of(l.propositions);
     byte_at(job, l.goal_at + (rows + q)) == 1
+}
+
+// Whether state s is busy: the mark of its label's byte.
+fn is_busy(job: &[u8], l: Layout, s: usize) -> bool
+    requires { ⌜ Fit (now job) l ⌝ }
+    requires { ⌜ s < l .states ⌝ }
+    ensures { λ r. ⌜ r ≡ said (now (job .entry)) .busy s ⌝ }
+{
+    sets::label::has_proposition(job[l.labels_at + s], BUSY)
+}
+
+// Whether the place of state s and goal state q is accepted. Nothing else decides it.
+pub fn is_accepted(job: &[u8], l: Layout, s: usize, q: usize) -> bool
+    requires { ⌜ Fit (now job) l ⌝ }
+    requires { ⌜ s < l .states ⌝ }
+    requires { ⌜ q < l .goals ⌝ }
+    ensures { λ r. ⌜ r ≡ arena (said (now (job .entry))) .accepted (place s q) ⌝ }
+{
+    if is_final(job, l, q) {
+        return !is_busy(job, l, s);
+    }
+    false
 }
 
 // Record k.

@@ -1,11 +1,14 @@
 // The bytes of a body: a number of two bytes, a record, and bytes that all lie below a limit.
 ghost use mathlib.Core.Path.{_≡_};
-ghost use Prim.Native.Nat.{_+_, _*_, _^_, _≤_, _<_};
+ghost use Prim.Native.Nat.{_+_, _*_, _%_, _^_, _≤_, _<_};
 ghost use lib.Dec.{ltb};
 ghost use lib.ListN.{length, getD};
 ghost use Rattle.game.specs.Below.{every-below};
 ghost use Rattle.rules.specs.Bytes.{word, record-at, before};
 use rules::place::Move;
+
+// The bit of a label's byte that marks its state as busy. The label is below it.
+pub const BUSY: u8 = 7;
 
 fn wide(x: u8) -> u16
     ensures { λ r. ⌜ r ≡ x ⌝ }
@@ -82,14 +85,22 @@ pub fn bytes_below(job: &[u8], at: usize, n: usize, limit: usize) -> bool
     true
 }
 
-// Whether the n labels from a place on all lie below 2^p, each judged bit by bit.
+// Whether a label lies below 2^p without its mark.
+fn label_fits(byte: u8, p: u8) -> bool
+    ensures { λ r. ⌜ r ≡ ltb (byte % 128) (2 ^ p) ⌝ }
+{
+    let label = sets::label::part_below(byte, BUSY);
+    sets::label::lies_below(label, p)
+}
+
+// Whether the n labels from a place on all lie below 2^p, each judged bit by bit without its mark.
 pub fn labels_below(job: &[u8], at: usize, n: usize, p: u8) -> bool
     requires { ⌜ at + n ≤ length (now job) ⌝ }
-    ensures { λ r. ⌜ r ≡ every-below n (λ i. ltb (getD (now (job .entry)) (at + i) 0) (2 ^ p)) ⌝ }
+    ensures { λ r. ⌜ r ≡ every-below n (λ i. ltb (getD (now (job .entry)) (at + i) 0 % 128) (2 ^ p)) ⌝ }
 {
     let mut i: usize = 0;
     while i < n {
-        if !sets::label::lies_below(job[at + i], p) {
+        if !label_fits(job[at + i], p) {
             return false;
         }
         i += 1;

@@ -1,4 +1,4 @@
-// Reading a job from bytes: its layout and counts or the first refusal, and what it says of a state, a goal state or a record.
+// Reading a job from bytes: its layout and counts or the first refusal, and what it says of a state, a goal state, a place or a record.
 pub mod accept;
 pub mod ask;
 mod body;

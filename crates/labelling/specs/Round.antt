@@ -1,5 +1,5 @@
 -- One round of a phase, and round 0.
-use Prim.Native.Nat.{ℕ, _*_, _%_, _≤_, _<_}
+use Prim.Native.Nat.{ℕ, _*_, _≤_, _<_}
 use mathlib.Core.Bool.{Bool, true, false, cond, not, _&&_}
 use mathlib.Core.List.{List}
 use mathlib.Core.Path.{_≡_}
@@ -45,8 +45,9 @@ module _ (b : List ℕ) (l : Layout) (v : Phase) (n : ℕ) (old : List ℕ) wher
   Passed = Pass adds adds new-entry
 
 module _ (b : List ℕ) (l : Layout) where
+  -- the place whose entry is x is accepted; what its entry then says
   abbrev pub met-at : ℕ → Bool
-  met-at x = said b .final (x % l .goals)
+  met-at x = arena (said b) .accepted (place-at (l .goals) x)
 
   abbrev pub first-entry : ℕ → Entry
   first-entry x = cond (met-at x) (says 2 255 0) (says 0 255 0)

@@ -131,7 +131,7 @@ fn begin_place(new: &mut [u64; WORDS], plan: &mut [u8], job: &[u8], l: Layout, i
     requires { ⌜ 4 * (l .states * l .goals) ≤ length (now plan) ⌝ }
     ensures { λ _. ⌜ Begun (now (job .entry)) l i (i + 1) (now (new .entry)) (now (plan .entry)) (now (new .exit)) (now (plan .exit)) ⌝ }
 {
-    if job::ask::is_final(job, l, i % l.goals) {
+    if job::ask::is_accepted(job, l, i / l.goals, i % l.goals) {
         sets::places::put_place(new, i);
         let value = rules::answer::Value::Winning.number();
         rules::entry::write_entry(

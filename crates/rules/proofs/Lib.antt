@@ -5,6 +5,7 @@ pub mod Judged
 pub mod Faults
 pub mod Numbers
 pub mod Kept
+pub mod Labels
 pub mod Arenas
 pub mod Traces
 pub mod Figures

@@ -1,4 +1,4 @@
--- The marked cases of document 01, each shown from the job's bytes to the plan's.
+-- The marked cases of document 01, and those with a busy state, each shown from the job's bytes to the plan's.
 use mathlib.Core.Bool.{Bool, true, _&&_}
 use mathlib.Core.List.{List·Memᴰ}
 use mathlib.Core.Path.{_≡_, refl, sym}
@@ -9,7 +9,7 @@ use Rattle.rules.specs.Job.{place, start, arena}
 use Rattle.rules.specs.Fault.{with-record}
 use Rattle.rules.specs.Bytes.{fault, refusal, said}
 use Rattle.rules.specs.Calls.{is-place}
-use Rattle.rules.specs.Examples.{plate, early, Case, marked, CaseHolds}
+use Rattle.rules.specs.Examples.{plate, early, Case, marked, busy-marked, CaseHolds}
 use Rattle.game.specs.declared.entry.Entry.{Entry}
 use Rattle.game.proofs.Lists.{every, every-at, some, sure}
 use Rattle.game.proofs.Search.{lowest}
@@ -69,6 +69,14 @@ pub plate-faults : let at = set plate in
     × (fault (set (at 35 0) 43 4) ≡ with-record 13 3)
     × (fault (set (at 26 4) 58 2) ≡ with-record 12 0)
 plate-faults = (refl, refl, refl, refl, refl)
+
+busy-hold : every holds busy-marked ≡ true
+unfolding same-entry holds by-rounds win hope lowest every some sure
+busy-hold = refl
+
+-- and so does each with a busy state
+pub busy-planned : (c : Case) → List·Memᴰ c busy-marked → CaseHolds c
+busy-planned c m = case-holds c (every-at holds busy-marked busy-hold c m)
 
 -- where the worked jobs start
 pub plate-starts : start (said plate) ≡ place 0 0

@@ -1,12 +1,13 @@
 -- The goal is over the whole run: along every play from the starting place the goal state is the one that the automaton reaches by the
--- labels of the states visited, and the goal is met where it takes them.
+-- labels of the states visited, and the goal is met where it takes them and the state is not busy.
 use Prim.Native.Nat.{ℕ}
+use mathlib.Core.Bool.{not, _&&_}
 use mathlib.Core.List.{List, [], _∷_, _++_}
 use mathlib.Core.Path.{_≡_, refl, sym, ap, _∙_}
 use Rattle.game.specs.Game.{Play, begin, last}
 use Rattle.rules.specs.Job.{Job, start, arena}
 use Rattle.game.specs.Visits.{Goes, so-far, further, trace}
-use Rattle.rules.specs.Trace.{reads, accepts, label-of}
+use Rattle.rules.specs.Trace.{reads, label-of, meets}
 use Rattle.rules.specs.declared.place.Place.{Place}
 use Rattle.rules.proofs.Arenas.{leads-iff}
 
@@ -31,6 +32,6 @@ module _ (j : Job) where
     pub traced : last h .goal ≡ reads (j .next) (j .first-goal) (trace (label-of j) h)
     traced = reads-on (j .first-goal) refl g
 
-    -- the place is accepted exactly when the automaton takes the trace
-    pub met-traced : arena j .accepted (last h) ≡ accepts j (trace (label-of j) h)
-    met-traced = ap (j .final) traced
+    -- the place is accepted exactly when the automaton takes the trace and the state is not busy
+    pub met-traced : arena j .accepted (last h) ≡ meets j h
+    met-traced = ap (λ (q : ℕ). j .final q && not (j .busy (last h .state))) traced

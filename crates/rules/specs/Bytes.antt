@@ -5,6 +5,7 @@ use mathlib.Core.Bool.{Bool, true, cond, not, _&&_, _||_}
 use mathlib.Core.List.{List}
 use lib.Dec.{leb, ltb, eqb}
 use lib.ListN.{length, getD}
+use Rattle.sets.specs.Sets.{bit}
 use Rattle.game.specs.Below.{every-below}
 use Rattle.rules.specs.Job.{Job}
 use Rattle.rules.specs.Fault.{Fault, only, with-record, or-else}
@@ -46,7 +47,7 @@ rows b = byte b 0 3 * width b
 abbrev pub mark : List ℕ → ℕ → ℕ
 mark b q = byte b 3 (rows b + q)
 
--- the job that the bytes say
+-- the job that the bytes say; a state is marked busy by 128 added to its label
 abbrev pub said : List ℕ → Job
 said b =
     record {
@@ -56,7 +57,8 @@ said b =
       goals = byte b 0 3;
       first = byte b 0 4;
       first-goal = byte b 0 5;
-      label = byte b 1;
+      label = λ s. byte b 1 s % 128;
+      busy = λ s. bit (byte b 1 s) 7;
       records = size b 2 / 3;
       move = move b;
       next = λ q l. byte b 3 (q * width b + l);
@@ -81,6 +83,7 @@ in-range s a p q f g =
 abbrev pub counts : Job → Bool
 counts j = in-range (j .states) (j .actions) (j .propositions) (j .goals) (j .first) (j .first-goal)
 
+-- a label for each state, below 2^P without its mark
 abbrev pub labels : List ℕ → Bool
 labels b = eqb (size b 1) (said b .states) && every-below (said b .states) (λ s. ltb (said b .label s) (width b))
 

@@ -13,21 +13,32 @@ use Rattle.rules.specs.Calls.{Planning}
 use Rattle.rules.specs.declared.place.Place.{Place}
 use Rattle.game.specs.declared.entry.Entry.{Entry}
 
-abbrev pub plate : List ℕ
-plate =
+-- One plate, with the byte d for the label of the drawer
+abbrev pub plate-with : ℕ → List ℕ
+plate-with d =
     0x10 ∷ 0 ∷ 0x06 ∷ 0 ∷ 0x16 ∷ 0 ∷ 0x04 ∷ 0 ∷ 0x1a ∷ 0 ∷ 0x12 ∷ 0 ∷ 0x2c ∷ 0 ∷ 0x0f ∷ 0
     ∷ 4 ∷ 3 ∷ 2 ∷ 3 ∷ 0 ∷ 0
-    ∷ 2 ∷ 0 ∷ 1 ∷ 0
+    ∷ d ∷ 0 ∷ 1 ∷ 0
     ∷ 0 ∷ 0 ∷ 1 ∷ 0 ∷ 0 ∷ 3 ∷ 1 ∷ 1 ∷ 1 ∷ 1 ∷ 1 ∷ 2 ∷ 1 ∷ 2 ∷ 0 ∷ 2 ∷ 2 ∷ 0
     ∷ 0 ∷ 1 ∷ 0 ∷ 1 ∷ 1 ∷ 1 ∷ 2 ∷ 2 ∷ 2 ∷ 2 ∷ 2 ∷ 2 ∷ 0 ∷ 0 ∷ 1 ∷ []
 
--- one state, one action, no proposition, no moves, one goal state with the mark m
-abbrev pub bare : ℕ → List ℕ
-bare m =
+abbrev pub plate : List ℕ
+plate = plate-with 2
+
+-- One plate with the drawer busy: 128 is added to its label
+abbrev pub busy-plate : List ℕ
+busy-plate = plate-with 130
+
+-- one state with the byte d for its label, one action, no proposition, no moves, one goal state with the mark m
+abbrev pub bare-with : ℕ → ℕ → List ℕ
+bare-with d m =
     0x10 ∷ 0 ∷ 6 ∷ 0 ∷ 0x16 ∷ 0 ∷ 1 ∷ 0 ∷ 0x17 ∷ 0 ∷ 0 ∷ 0 ∷ 0x17 ∷ 0 ∷ 2 ∷ 0
     ∷ 1 ∷ 1 ∷ 0 ∷ 1 ∷ 0 ∷ 0
-    ∷ 0
+    ∷ d
     ∷ 0 ∷ m ∷ []
+
+abbrev pub bare : ℕ → List ℕ
+bare = bare-with 0
 
 -- the same with two goal states, the first one final, both leading to the second
 abbrev pub early : List ℕ
@@ -64,6 +75,25 @@ marked =
     ∷ case (bare 0) (place 0 0) (says 0 255 0)
     ∷ case (bare 1) (place 0 0) (says 2 255 0)
     ∷ case early (place 0 1) (says 0 255 0)
+    ∷ []
+
+-- Where the drawer of One plate is busy: the goal is not met there, so the play goes on, and what led there takes one move more. And Bare,
+-- final but busy, with nothing open.
+abbrev pub busy-marked : List Case
+busy-marked =
+    case busy-plate (place 0 0) (says 1 0 2)
+    ∷ case busy-plate (place 0 1) (says 1 0 1)
+    ∷ case busy-plate (place 0 2) (says 2 0 1)
+    ∷ case busy-plate (place 1 0) (says 1 1 1)
+    ∷ case busy-plate (place 1 1) (says 2 2 2)
+    ∷ case busy-plate (place 1 2) (says 2 255 0)
+    ∷ case busy-plate (place 2 0) (says 1 2 3)
+    ∷ case busy-plate (place 2 1) (says 2 2 2)
+    ∷ case busy-plate (place 2 2) (says 2 255 0)
+    ∷ case busy-plate (place 3 0) (says 0 255 0)
+    ∷ case busy-plate (place 3 1) (says 0 255 0)
+    ∷ case busy-plate (place 3 2) (says 2 255 0)
+    ∷ case (bare-with 128 1) (place 0 0) (says 0 255 0)
     ∷ []
 
 -- What a marked case says, from bytes to bytes: the job keeps the rules, and the place is one of its places; into every buffer with room it

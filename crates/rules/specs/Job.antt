@@ -1,6 +1,6 @@
 -- A job, its places, and the game that is played on them: document 01, "Places, plays and values".
 use Prim.Native.Nat.{ℕ, zero, suc, _+_, _*_}
-use mathlib.Core.Bool.{Bool, cond, _&&_}
+use mathlib.Core.Bool.{Bool, cond, not, _&&_}
 use mathlib.Core.List.{List, [], _∷_, _++_, map}
 use lib.Dec.{eqb}
 use Rattle.game.specs.Below.{upto, each, some-below}
@@ -16,6 +16,7 @@ pub record Job : Type 0 where
   pub first : ℕ
   pub first-goal : ℕ
   pub label : ℕ → ℕ
+  pub busy : ℕ → Bool
   pub records : ℕ
   pub move : ℕ → Move
   pub next : ℕ → ℕ → ℕ
@@ -56,6 +57,10 @@ module _ (j : Job) where
   abbrev pub places : ℕ
   places = j .states * j .goals
 
+  -- a place is accepted exactly when its goal state is final and its state is not busy
+  abbrev pub is-accepted : Place → Bool
+  is-accepted p = j .final (p .goal) && not (j .busy (p .state))
+
   abbrev pub arena : Arena
   arena =
       record {
@@ -63,5 +68,5 @@ module _ (j : Job) where
         all = each (upto (j .states)) (λ s. map (place s) (upto (j .goals)));
         actions = j .actions;
         leads = λ p a. map (entered (p .goal)) (listed (p .state) a (j .records));
-        accepted = λ p. j .final (p .goal);
+        accepted = is-accepted;
       }

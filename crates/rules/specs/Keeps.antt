@@ -33,7 +33,7 @@ pub record Keeps (b : List ℕ) : Type 0 where
   pub few-goals : said b .goals ≤ 32
   pub first-state : said b .first < said b .states
   pub first-goal-state : said b .first-goal < said b .goals
-  -- Labels: one byte a state, below 2^P
+  -- Labels: one byte a state, without its mark below 2^P
   pub labels-long : size b 1 ≡ said b .states
   pub label-below : (s : ℕ) → s < said b .states → said b .label s < width b
   -- Moves: 0 to 4,096 records of three bytes, each field in its range, strictly ascending

@@ -1,7 +1,9 @@
 -- The goal's automaton over a whole trace: document 01, "Places, plays and values".
 use Prim.Native.Nat.{ℕ}
-use mathlib.Core.Bool.{Bool}
+use mathlib.Core.Bool.{Bool, not, _&&_}
 use mathlib.Core.List.{List, [], _∷_}
+use Rattle.game.specs.Game.{Play, last}
+use Rattle.game.specs.Visits.{trace}
 use Rattle.rules.specs.Job.{Job}
 use Rattle.rules.specs.declared.place.Place.{Place}
 
@@ -17,3 +19,7 @@ module _ (j : Job) where
 
   abbrev pub label-of : Place → ℕ
   label-of p = j .label (p .state)
+
+  -- a play meets the goal where it stands: the automaton takes its trace, and the state is not busy
+  abbrev pub meets : Play Place → Bool
+  meets h = accepts (trace label-of h) && not (j .busy (last h .state))

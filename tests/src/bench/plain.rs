@@ -30,9 +30,17 @@ pub struct Job<'a> {
     pub marks: &'a [u8],
 }
 
+/// The mark of a busy state, in its label's byte.
+const BUSY: u8 = 128;
+
 impl Job<'_> {
     pub fn goal_after(&self, goal: usize, outcome: u8) -> usize {
-        usize::from(self.next[(goal << self.propositions) + usize::from(self.labels[usize::from(outcome)])])
+        let label = self.labels[usize::from(outcome)] & !BUSY;
+        usize::from(self.next[(goal << self.propositions) + usize::from(label)])
+    }
+
+    fn accepted(&self, place: usize) -> bool {
+        self.marks[place % self.goals] == 1 && self.labels[place / self.goals] & BUSY == 0
     }
 
     pub fn places(&self) -> usize {
@@ -72,7 +80,8 @@ pub fn read(job: &[u8]) -> Result<Job<'_>, u32> {
     let &[states, actions, propositions, goals, first_state, first_goal] = counts else { return Err(2) };
     let in_range = (1..=128).contains(&states) && (1..=16).contains(&actions) && propositions <= 6;
     check(in_range && (1..=32).contains(&goals) && first_state < states && first_goal < goals, 3)?;
-    check(labels.len() == usize::from(states) && labels.iter().all(|&label| label >> propositions == 0), 4)?;
+    let small = |&label: &u8| (label & !BUSY) >> propositions == 0;
+    check(labels.len() == usize::from(states) && labels.iter().all(small), 4)?;
     let (moves, rest) = moves.as_chunks::<3>();
     check(rest.is_empty() && moves.len() <= 4_096, 5)?;
     let inside = |one: &[u8; 3]| one[0] < states && one[1] < actions && one[2] < states;
@@ -144,7 +153,7 @@ pub fn plan(job: &[u8], plan: &mut [u8]) -> u32 {
     let Some((plan, _)) = plan.as_chunks_mut::<4>().0.split_at_mut_checked(job.places()) else { return 7 };
     let mut set = Set([0; PLACES / 64]);
     for (place, entry) in plan.iter_mut().enumerate() {
-        let accepted = job.marks[place % job.goals] == 1;
+        let accepted = job.accepted(place);
         *entry = if accepted { [2, 255, 0, 0] } else { [0, 255, 0, 0] };
         if accepted {
             set.add(place);

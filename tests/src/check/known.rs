@@ -1,6 +1,6 @@
 //! Holds the oracle itself to the answers that the rules give in full.
 
-use crate::make::known::{bare, early, edges, one_plate, ONE_PLATE_TEXT};
+use crate::make::known::{bare, busy_plate, early, edges, one_plate, BUSY_DRAWER_TEXT, ONE_PLATE_TEXT};
 use crate::oracle::{listing, Oracle, ROOM};
 
 fn expect(what: &str, good: bool) {
@@ -15,6 +15,7 @@ pub fn known() {
     let lengths = [one_plate().len(), bare(0).len(), early().len()];
     expect("lengths of the given jobs", lengths == [59, 25, 27]);
     expect("listing of One plate", listing(&one_plate()) == ONE_PLATE_TEXT);
+    expect("listing of One plate with the drawer busy", listing(&busy_plate(1)) == BUSY_DRAWER_TEXT);
     expect("listing of Bare with mark 0", listing(&bare(0)) == "start 0 0 losing\n0 0 losing - 0\n");
     expect("listing of Bare with mark 1", listing(&bare(1)) == "start 0 0 winning\n0 0 winning - 0\n");
     let early_text = "start 0 1 losing\n0 0 winning - 0\n0 1 losing - 0\n";

@@ -13,6 +13,8 @@ pub struct Tally {
     answers: [u64; 14],
     /// Entries: losing, pending, winning but not accepted, accepted.
     entries: [u64; 4],
+    /// Entries where the goal state is final and the state busy: losing, pending, winning.
+    busy: [u64; 3],
     largest: usize,
     labels_possible: BTreeSet<usize>,
     goals: BTreeSet<usize>,
@@ -33,6 +35,10 @@ impl Tally {
         if let Ok(job) = &oracle.job {
             self.labels_possible.insert(job.labels_possible);
             self.goals.insert(job.goals);
+            let held = |place: &usize| job.last[place % job.goals] && job.busy[place / job.goals];
+            for place in (0..job.places()).filter(held) {
+                self.busy[usize::from(oracle.entries[place].value)] += 1;
+            }
         }
         for entry in &oracle.entries {
             let accepted = usize::from(entry.value == WINNING && entry.number == 0);
@@ -52,12 +58,15 @@ impl Tally {
         self.records.iter().any(|&(by, record)| by == number && such(record))
     }
 
-    /// Whether every answer, every value and every count of propositions and goal states has come up.
+    /// Whether every answer, every value, final and busy places of every value, the largest number that there can be and every
+    /// count of propositions and goal states have come up.
     pub fn covered(&self) -> bool {
         let answers = self.answers.iter().enumerate().filter(|(_, &count)| count > 0);
         let answers: Vec<usize> = answers.map(|(refusal, _)| refusal).collect();
         answers == [0, 1, 2, 3, 4, 5, 6, 7, 9, 10, 11, 12, 13]
             && self.entries.iter().all(|&count| count > 0)
+            && self.busy.iter().all(|&count| count > 0)
+            && self.largest == 128 * 32 - 1
             && self.labels_possible.len() == 7
             && self.goals.len() == 32
             && self.brute > 0
@@ -80,6 +89,8 @@ impl Tally {
         println!("calls in all: {}", self.answers.iter().sum::<u64>());
         let [losing, pending, winning, accepted] = self.entries;
         println!("entries: {losing} losing, {pending} pending, {winning} winning, {accepted} accepted");
+        let [losing, pending, winning] = self.busy;
+        println!("of final, busy places: {losing} losing, {pending} pending, {winning} winning");
         println!("largest number: {}", self.largest);
         let (propositions, goals) = (self.labels_possible.len(), self.goals.len());
         println!("good jobs had {propositions} of 7 counts of propositions, {goals} of 32 counts of goal states");

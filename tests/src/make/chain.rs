@@ -1,6 +1,6 @@
 //! Jobs with long ways to go: a ring of states in which each round leads one goal state further.
 
-use super::parts::Parts;
+use super::parts::{Parts, BUSY};
 use super::valid::{in_order, Size};
 use crate::random::Random;
 
@@ -9,14 +9,24 @@ use crate::random::Random;
 pub enum Doubt {
     /// Nothing: every place is winning.
     None,
-    /// The last state of the ring may hold its place for ever.
+    /// The state before the first accepted place may hold its place for ever.
     AtTheEnd,
     /// Some other state may.
     Somewhere,
 }
 
-/// A ring with numbers from 1 to states * (goals - 1), and exactly so many moves where there are enough to choose from.
-pub fn job(random: &mut Random, size: Size, doubt: Doubt) -> Parts {
+/// Where the way ends.
+#[derive(Clone, Copy, PartialEq, Eq)]
+pub enum End {
+    /// With the last goal state: no state is busy.
+    AnyState,
+    /// In the ring's last state as well: the others are busy, and one place alone is accepted.
+    OnePlace,
+}
+
+/// A ring with numbers up to states * (goals - 1), or to states * goals - 1 where it ends in one place, and exactly so many
+/// moves where there are enough to choose from.
+pub fn job(random: &mut Random, size: Size, doubt: Doubt, end: End) -> Parts {
     let mut ring: Vec<u8> = (0..size.states as u8).collect();
     let mut goals: Vec<u8> = (0..size.goals as u8).collect();
     random.shuffle(&mut ring);
@@ -26,15 +36,18 @@ pub fn job(random: &mut Random, size: Size, doubt: Doubt) -> Parts {
     let counts = [size.states, size.actions, size.propositions, size.goals].map(|count| count as u8);
     Parts {
         counts: [&counts[..], &[start, goals[0]]].concat(),
-        labels: labels(random, size, ring[0]),
-        moves: moves(random, size, doubt, &ring),
+        labels: labels(random, size, &ring, end),
+        moves: moves(random, size, (doubt, end), &ring),
         goal: goal(size, &goals),
     }
 }
 
-/// Proposition 0 is true only in the ring's first state; the others are true anywhere.
-fn labels(random: &mut Random, size: Size, first: u8) -> Vec<u8> {
-    let label = |state| (random.below(1 << size.propositions) as u8 & !1) | u8::from(state == first);
+/// Proposition 0 is true only in the ring's first state; the others are true anywhere. Of a ring that ends in one place every state
+/// but the last is marked busy.
+fn labels(random: &mut Random, size: Size, ring: &[u8], end: End) -> Vec<u8> {
+    let (first, last) = (ring[0], ring[ring.len() - 1]);
+    let mark = |state| if end == End::OnePlace && state != last { BUSY } else { 0 };
+    let label = |state| (random.below(1 << size.propositions) as u8 & !1) | u8::from(state == first) | mark(state);
     (0..size.states as u8).map(label).collect()
 }
 
@@ -53,13 +66,16 @@ fn goal(size: Size, goals: &[u8]) -> Vec<u8> {
     [table, marks].concat()
 }
 
-fn moves(random: &mut Random, size: Size, doubt: Doubt, ring: &[u8]) -> Vec<u8> {
+fn moves(random: &mut Random, size: Size, (doubt, end): (Doubt, End), ring: &[u8]) -> Vec<u8> {
     let onward = random.below(size.actions) as u8;
     let at = |index: usize| ring[index % ring.len()];
     let mut records: Vec<[u8; 3]> = (0..ring.len()).map(|index| [at(index), onward, at(index + 1)]).collect();
     match doubt {
         Doubt::None => {}
-        Doubt::AtTheEnd => records.push([at(ring.len() - 1), onward, at(ring.len() - 1)]),
+        Doubt::AtTheEnd => {
+            let index = ring.len() - if end == End::OnePlace && ring.len() > 1 { 2 } else { 1 };
+            records.push([at(index), onward, at(index)]);
+        }
         Doubt::Somewhere => {
             let index = random.below(ring.len());
             records.push([at(index), onward, at(index)]);

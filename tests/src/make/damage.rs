@@ -1,6 +1,6 @@
 //! Faults for good jobs, at least one manner for every way in which a body can be wrong.
 
-use super::parts::Parts;
+use super::parts::{Parts, BUSY};
 use crate::random::Random;
 
 /// Puts one count or first number out of range, sometimes with bodies that fit it.
@@ -39,8 +39,9 @@ fn labels(random: &mut Random, parts: &mut Parts) {
     }
     let possible = 1_u8 << parts.counts[2].min(7);
     let index = random.edge(parts.labels.len());
-    let too_large = [possible, possible.saturating_add(1), 255, 64, 128, parts.labels[index] | 128];
-    parts.labels[index] = random.pick(&too_large);
+    let mark = random.pick(&[0, BUSY, parts.labels[index] & BUSY]);
+    let too_large = [possible, possible | 1, possible | parts.labels[index], 64, 127];
+    parts.labels[index] = mark | random.pick(&too_large);
 }
 
 fn moves(random: &mut Random, parts: &mut Parts) {

@@ -1,6 +1,6 @@
 //! The jobs that the rules give in full, and the edges that they name, with the refusal due to each.
 
-use super::parts::Parts;
+use super::parts::{Parts, BUSY};
 use crate::oracle::{Refused, FIELD, MOVES, ORDER};
 
 /// One plate: drawer, stage, just exposed, broken.
@@ -26,6 +26,34 @@ start 0 0 pending
 1 2 winning - 0
 2 0 pending 2 3
 2 1 winning 2 1
+2 2 winning - 0
+3 0 losing - 0
+3 1 losing - 0
+3 2 winning - 0
+";
+
+/// One plate with these states busy, bit i for state i.
+pub fn busy_plate(states: u8) -> Vec<u8> {
+    let mut job = one_plate();
+    for (index, label) in job[22..26].iter_mut().enumerate() {
+        if states >> index & 1 == 1 {
+            *label += BUSY;
+        }
+    }
+    job
+}
+
+/// One plate with the drawer busy.
+pub const BUSY_DRAWER_TEXT: &str = "\
+start 0 0 pending
+0 0 pending 0 2
+0 1 pending 0 1
+0 2 winning 0 1
+1 0 pending 1 1
+1 1 winning 2 2
+1 2 winning - 0
+2 0 pending 2 3
+2 1 winning 2 2
 2 2 winning - 0
 3 0 losing - 0
 3 1 losing - 0
@@ -74,6 +102,17 @@ fn numbered() -> Vec<(Vec<u8>, u32)> {
         (blank(128, 16, 6, 32).bytes(), 0),
         (label(7), 0),
         (label(8), 4),
+        (label(BUSY | 7), 0),
+        (label(BUSY | 8), 4),
+        (label(64), 4),
+        (label(127), 4),
+        (label(BUSY), 0),
+        (label(192), 4),
+        (label(255), 4),
+        (Parts { labels: vec![191], ..blank(1, 1, 6, 1) }.bytes(), 0),
+        (Parts { labels: vec![192], ..blank(1, 1, 6, 1) }.bytes(), 4),
+        (Parts { labels: vec![BUSY], ..blank(1, 1, 0, 1) }.bytes(), 0),
+        (Parts { labels: vec![BUSY | 1], ..blank(1, 1, 0, 1) }.bytes(), 4),
         (moves(many_moves(2)), 0),
         (moves(many_moves(4_096)), 0),
         (moves(many_moves(4_097)), 5),

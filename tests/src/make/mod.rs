@@ -11,6 +11,7 @@ use crate::oracle::Oracle;
 use crate::random::Random;
 use crate::report::Input;
 pub use chain::Doubt;
+use chain::End;
 use parts::Parts;
 pub use valid::Size;
 
@@ -30,14 +31,14 @@ pub fn longest(seed: u64) -> Vec<u8> {
     jobs.find(|job| job.len() == 14_518 && varied(job)).expect("some number gives such a job")
 }
 
-/// As long, with numbers as large as they can be.
+/// As long, with numbers as large as they can be: one place is accepted, and the last number is the count of places less one.
 pub fn deepest(seed: u64, doubt: Doubt) -> Vec<u8> {
-    chain::job(&mut Random::new(seed, 1), FULL, doubt).bytes()
+    chain::job(&mut Random::new(seed, 1), FULL, doubt, End::OnePlace).bytes()
 }
 
 pub fn middling(seed: u64) -> Vec<u8> {
     let size = Size { states: 32, actions: 8, propositions: 3, goals: 8, moves: 512 };
-    chain::job(&mut Random::new(seed, 2), size, Doubt::Somewhere).bytes()
+    chain::job(&mut Random::new(seed, 2), size, Doubt::Somewhere, End::AnyState).bytes()
 }
 
 /// A job whose listing has something to show: the largest plans, large numbers, high actions, or an input too long to be taken in whole.
@@ -51,7 +52,8 @@ pub fn listed(seed: u64, number: u64) -> Vec<u8> {
         1 => {
             let (states, moves) = (random.between(33, 48), random.between(50, 200));
             let doubt = random.pick(&[Doubt::None, Doubt::AtTheEnd, Doubt::Somewhere]);
-            chain::job(random, Size { states, actions: 16, propositions: 1, goals: 32, moves }, doubt).bytes()
+            let end = random.pick(&[End::AnyState, End::OnePlace]);
+            chain::job(random, Size { states, actions: 16, propositions: 1, goals: 32, moves }, doubt, end).bytes()
         }
         2 => chained(random),
         3 => {
@@ -79,6 +81,7 @@ impl Inputs {
             ("deepest", deepest(seed, Doubt::None)),
             ("deepest", deepest(seed, Doubt::AtTheEnd)),
         ];
+        fixed.extend((1..16).map(|states| ("One plate with busy states", known::busy_plate(states))));
         fixed.extend(known::edges().into_iter().map(|(job, _)| ("edge", job)));
         fixed.extend(changes().into_iter().map(|job| ("One plate, one byte changed", job)));
         fixed.extend(other_lengths().into_iter().map(|job| ("One plate, cut or longer", job)));
@@ -146,7 +149,8 @@ fn chained(random: &mut Random) -> Vec<u8> {
         moves: if wide { 160 } else { 40 },
     };
     let size = limit.upto(random);
-    chain::job(random, size, doubt).bytes()
+    let end = random.pick(&[End::AnyState, End::OnePlace]);
+    chain::job(random, size, doubt, end).bytes()
 }
 
 /// Any counts at all, with moves that stay few.

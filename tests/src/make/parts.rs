@@ -1,5 +1,8 @@
 //! A job in its four bodies, to be put together with contents that fit them.
 
+/// What is added to the label of a busy state.
+pub const BUSY: u8 = 128;
+
 #[derive(Clone, Default)]
 pub struct Parts {
     pub counts: Vec<u8>,

@@ -1,6 +1,6 @@
 //! Good jobs of every shape: any counts, moves in several manners, goals in several manners.
 
-use super::parts::Parts;
+use super::parts::{Parts, BUSY};
 use crate::random::Random;
 
 /// What a good job is to have; the moves are at most so many.
@@ -30,7 +30,12 @@ fn labels(random: &mut Random, size: Size) -> Vec<u8> {
     let possible = 1 << size.propositions;
     let same = random.below(possible) as u8;
     let often_same = random.once_in(4);
-    let label = |_| if often_same && !random.once_in(4) { same } else { random.below(possible) as u8 };
+    // No state is busy in half of the jobs, and in the others one in two, one in five or every one.
+    let busy = random.pick(&[0, 0, 0, 5, 2, 1]);
+    let label = |_| {
+        let mark = if busy > 0 && random.once_in(busy) { BUSY } else { 0 };
+        mark | if often_same && !random.once_in(4) { same } else { random.below(possible) as u8 }
+    };
     (0..size.states).map(label).collect()
 }
 

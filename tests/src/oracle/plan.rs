@@ -28,7 +28,7 @@ fn action_of(
     (value, number): (u8, usize),
     known: &dyn Fn(usize) -> (u8, usize),
 ) -> u8 {
-    if value == LOSING || job.last[goal] {
+    if value == LOSING || job.accepted(state, goal) {
         return 255;
     }
     let after = |outcome: usize| known(job.place(outcome, job.goal_after(goal, outcome)));

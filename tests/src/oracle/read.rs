@@ -17,7 +17,9 @@ pub struct Job {
     pub goals: usize,
     pub first_state: usize,
     pub first_goal: usize,
+    /// Without the marks.
     pub labels: Vec<usize>,
+    pub busy: Vec<bool>,
     pub moves: Vec<Move>,
     /// Next goal state: goal state times possible labels plus label.
     pub next: Vec<usize>,
@@ -33,6 +35,11 @@ impl Job {
 
     pub fn place(&self, state: usize, goal: usize) -> usize {
         state * self.goals + goal
+    }
+
+    /// Where a play ends: the goal state is final, and the state is not busy.
+    pub fn accepted(&self, state: usize, goal: usize) -> bool {
+        self.last[goal] && !self.busy[state]
     }
 
     /// The goal state that follows when this outcome's label is read.
@@ -86,10 +93,12 @@ fn read_counts(body: &[u8]) -> Result<[usize; 6], u32> {
     good.then_some(counts).ok_or(COUNTS)
 }
 
-fn read_labels(body: &[u8], states: usize, possible: usize) -> Result<Vec<usize>, u32> {
-    let labels: Vec<usize> = body.iter().map(|&byte| byte.into()).collect();
+/// Each state's label, and whether it is busy: 128 is then added to its label.
+fn read_labels(body: &[u8], states: usize, possible: usize) -> Result<(Vec<usize>, Vec<bool>), u32> {
+    let one = |&byte: &u8| if byte >= 128 { (usize::from(byte) - 128, true) } else { (byte.into(), false) };
+    let (labels, busy): (Vec<usize>, Vec<bool>) = body.iter().map(one).unzip();
     let good = labels.len() == states && labels.iter().all(|&label| label < possible);
-    good.then_some(labels).ok_or(LABELS)
+    good.then_some((labels, busy)).ok_or(LABELS)
 }
 
 fn read_moves(body: &[u8], states: usize, actions: usize) -> Result<Vec<Move>, Refused> {
@@ -127,10 +136,23 @@ pub fn read(job: &[u8]) -> Result<Job, Refused> {
     let [counts, labels, moves, goal] = bodies(job)?;
     let [states, actions, propositions, goals, first_state, first_goal] = read_counts(counts)?;
     let labels_possible = 1 << propositions;
-    let labels = read_labels(labels, states, labels_possible)?;
+    let (labels, busy) = read_labels(labels, states, labels_possible)?;
     let moves = read_moves(moves, states, actions)?;
     let (next, last) = read_goal(goal, goals, labels_possible)?;
     let before = |state: usize| moves.partition_point(|record| record.state < state);
     let of_state = (0..states).map(|state| before(state)..before(state + 1)).collect();
-    Ok(Job { states, actions, labels_possible, goals, first_state, first_goal, labels, moves, next, last, of_state })
+    Ok(Job {
+        states,
+        actions,
+        labels_possible,
+        goals,
+        first_state,
+        first_goal,
+        labels,
+        busy,
+        moves,
+        next,
+        last,
+        of_state,
+    })
 }

@@ -71,7 +71,8 @@ pub fn winning(job: &Job) -> Vec<Option<usize>> {
             unknown[job.place(one.state, goal) * 16 + one.action] += 1;
         }
     }
-    let wave: Vec<usize> = (0..job.places()).filter(|place| job.last[place % job.goals]).collect();
+    let accepted = |place: &usize| job.accepted(place / job.goals, place % job.goals);
+    let wave: Vec<usize> = (0..job.places()).filter(accepted).collect();
     let mut numbers = vec![None; job.places()];
     wave.iter().for_each(|&place| numbers[place] = Some(0));
     spread(&Backward::new(job), wave, &mut numbers, |before, action| {

@@ -1,19 +1,23 @@
 -- `begin_place` meets its contract: an accepted place joins the set, and its entry is written either way.
 use mathlib.Core.Path.{sym, _∙_}
-use native.Mathlib.Nat.{mod-lt}
+use native.Mathlib.Nat.{mod-lt, div-lt-iff-lt-mul}
 use borrow.Author.Needs.{needs}
 use Rattle.job.proofs.Asking.{some-goals}
 use Rattle.labelling.proofs.Rounding.{begun-met, begun-unmet}
 use Rattle.labelling.proofs.round.begin_place.Statement.{statement}
 use Rattle.labelling.proofs.round.begin_place.Tie as tie
 
-rem-is-final : tie.Need-rem-is-final
-rem-is-final c = some-goals (c .before .before .before .pre .0)
+div-is-accepted : tie.Need-div-is-accepted
+div-is-accepted c = some-goals (c .before .before .before .pre .0)
 
-is-final-requires : tie.Need-is-final-requires
-is-final-requires c κs =
-    let s = c .before .before .before in
-    (s .pre .0, mod-lt (s .args .i) (some-goals (s .pre .0)))
+rem-is-accepted : tie.Need-rem-is-accepted
+rem-is-accepted c = some-goals (c .before .before .before .before .pre .0)
+
+is-accepted-requires : tie.Need-is-accepted-requires
+is-accepted-requires c κs =
+    let s = c .before .before .before .before in
+    let g = some-goals (s .pre .0) in
+    (s .pre .0, (div-lt-iff-lt-mul g .1 (s .pre .1 .0), mod-lt (s .args .i) g))
 
 put-place-requires : tie.Need-put-place-requires
 put-place-requires c κs = search needs
@@ -33,8 +37,8 @@ returns c =
     let w = c .before .before in
     let p = w .before .before .before in
     let t = p .before .before in
-    let s = t .before .before .before .before .before in
-    begun-met (s .pre .0) (s .pre .1 .0) (sym (t .before .is-final .ensures) ∙ t .if1 .taken) (p .put-place .ensures)
+    let s = t .before .before .before .before .before .before in
+    begun-met (s .pre .0) (s .pre .1 .0) (sym (t .before .is-accepted .ensures) ∙ t .if1 .taken) (p .put-place .ensures)
     (w .before .before .number .ensures) (w .write-entry .ensures)
 
 number-requires-2 : tie.Need-number-requires-2
@@ -51,15 +55,16 @@ returns-2 : tie.Need-returns-2
 returns-2 c =
     let w = c .before .before in
     let t = w .before .before .before in
-    begun-unmet (t .before .before .before .before .before .pre .0) (sym (t .before .is-final .ensures) ∙ t .if1 .left)
+    begun-unmet (t .before .before .before .before .before .before .pre .0) (sym (t .before .is-accepted .ensures) ∙ t .if1 .left)
     (w .before .before .number2 .ensures) (w .write-entry2 .ensures)
 
 pub begin-place-spec : {M : Type 1} → statement M
 begin-place-spec =
     tie.close
     (tie.spec
-    rem-is-final
-    is-final-requires
+    div-is-accepted
+    rem-is-accepted
+    is-accepted-requires
     put-place-requires
     number-requires
     write-entry-requires
