@@ -1,5 +1,5 @@
 -- What a laid-out job says of its bodies: where each lies in the bytes, how long it is, and what its bytes and records are.
-use Prim.Native.Nat.{ℕ, zero, suc, _+_, _-_, _*_, _/_, _^_, _≤_}
+use Prim.Native.Nat.{ℕ, zero, suc, _+_, _-_, _*_, _/_, _^_, _≤_, _<_}
 use mathlib.Core.Bool.{Bool, true}
 use mathlib.Core.List.{List}
 use mathlib.Core.Logic.{_↔_}
@@ -7,7 +7,8 @@ use mathlib.Core.Path.{_≡_, refl, ap, _∙_}
 use native.Mathlib.Nat.{add-assoc, mul-le-mul}
 use native.Mathlib.Numerals.{add-one}
 use native.Mathlib.Omega.{arith}
-use lib.Dec.{leb, ltb, leb·suc-suc, eqb·suc-zero}
+use borrow.Author.Tests.{lt-ltb}
+use lib.Dec.{leb, ltb, leb·suc-suc}
 use lib.ListN.{length, getD}
 use lib.Pow.{pow-mono}
 use Rattle.game.specs.Below.{every-below}
@@ -15,8 +16,10 @@ use Rattle.rules.specs.Bytes.{offset, size, record-at, rows, mark, said, conten
 use Rattle.rules.specs.declared.place.Move.{Move}
 use Rattle.game.proofs.Tests.{every-below-ext}
 use Rattle.rules.proofs.Judged.{InRange, contents-iff, range-iff}
+use Rattle.job.specs.Joined.{joined}
 use Rattle.job.specs.Layout.{layout, Laid, in-ranges, fault-after}
 use Rattle.job.specs.declared.layout.Layout.{Layout}
+use Rattle.job.proofs.Joining.{Typed, joined-before}
 
 -- byte k from a place on lies below the limit
 abbrev pub below : List ℕ → ℕ → ℕ → ℕ → Bool
@@ -87,20 +90,25 @@ rows-few l e =
 
 -- ---- records
 
--- the record before record k, where there is one
-abbrev pub previous : (ℕ → Move) → ℕ → Move
-previous f zero = record { state = 0; action = 0; outcome = 0 }
-previous f (suc k) = f k
+-- the record before record k, joined, or 0 where there is none
+abbrev pub previous : (ℕ → Move) → ℕ → ℕ
+previous f zero = 0
+previous f (suc k) = joined (f k)
 
--- what is wrong with record k after the one before it is what is wrong with it among all records
-pub fault-is : (b : List ℕ) (l : Layout) → l ≡ layout b → (k : ℕ)
+-- a record of bytes is as wide as its type
+typed : (b : List ℕ) → ((i : ℕ) → getD b i 0 < 256) → (i : ℕ) → Typed (record-at b i)
+typed b h i = record { state-fits = omega (arith, h i); action-fits = h (i + 1); outcome-fits = omega (arith, h (i + 2)) }
+
+-- what is wrong with record k after the one before it, joined, is what is wrong with it among all records
+pub fault-is : (b : List ℕ) (l : Layout) → ((i : ℕ) → getD b i 0 < 256) → l ≡ layout b → (k : ℕ)
     → fault-after l k (previous (said b .move) k) (record-at b (l .«moves_at» + 3 * k)) ≡ record-fault (said b) k
-fault-is b l e zero = rw e
-fault-is b l e (suc k) = rw (e, eqb·suc-zero k)
+fault-is b l h e zero = rw (e, lt-ltb 0 (joined (said b .move 0)) (omega arith))
+fault-is b l h e (suc k) =
+    rw (e, joined-before (said b .move k) (said b .move (suc k)) (typed b h (offset b 2 + 3 * k)) (typed b h (offset b 2 + 3 * suc k)))
 
--- record k is the one before the next
+-- record k, joined, is what stands before the next
 pub previous-is : (b : List ℕ) (l : Layout) → l ≡ layout b → (k : ℕ)
-    → record-at b (l .«moves_at» + 3 * k) ≡ previous (said b .move) (k + 1)
+    → joined (record-at b (l .«moves_at» + 3 * k)) ≡ previous (said b .move) (k + 1)
 previous-is b l e k = rw (add-one k, e)
 
 -- ---- marks

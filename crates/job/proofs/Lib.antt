@@ -1,4 +1,5 @@
 -- The laws that belong to no one function.
+pub mod Joining
 pub mod Laying
 pub mod Readings
 pub mod Asking

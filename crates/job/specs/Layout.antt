@@ -1,14 +1,15 @@
 -- The layout that a job's bytes say, and what reading and asking rely on.
 use Prim.Native.Nat.{ℕ, _≤_}
-use mathlib.Core.Bool.{Bool, true, cond}
+use mathlib.Core.Bool.{Bool, true}
 use mathlib.Core.List.{List}
 use mathlib.Core.Path.{_≡_}
-use lib.Dec.{eqb}
+use lib.Dec.{ltb}
 use lib.ListN.{length}
 use Rattle.rules.specs.Fault.{Fault}
-use Rattle.rules.specs.Bytes.{offset, said, contents, in-range, within, before, judged}
+use Rattle.rules.specs.Bytes.{offset, said, contents, in-range, within, judged}
 use Rattle.rules.specs.Keeps.{Keeps}
 use Rattle.rules.specs.declared.place.Move.{Move}
+use Rattle.job.specs.Joined.{joined}
 use Rattle.job.specs.declared.layout.Layout.{Layout}
 
 abbrev pub layout : List ℕ → Layout
@@ -30,9 +31,9 @@ layout b =
 abbrev pub in-ranges : Layout → Bool
 in-ranges l = in-range (l .states) (l .actions) (l .propositions) (l .goals) (l .first) (l .«first_goal»)
 
--- what is wrong with record k, which is m, after the one before it, which is last
-abbrev pub fault-after : Layout → ℕ → Move → Move → Fault
-fault-after l k last m = judged (within (l .states) (l .actions) m) (cond (eqb k 0) true (before last m)) k
+-- what is wrong with record k, which is m, where last is the one before it, joined, or 0
+abbrev pub fault-after : Layout → ℕ → ℕ → Move → Fault
+fault-after l k last m = judged (within (l .states) (l .actions) m) (ltb last (joined m)) k
 
 -- the bytes are long enough for contents, which are in order, and l is what they say
 pub record Laid (b : List ℕ) (l : Layout) : Type 0 where

@@ -8,7 +8,7 @@ ghost use Rattle.job.specs.Layout.{layout, Laid, in-ranges, fault-after}
 ghost use Rattle.job.specs.Reading.{verdict-fault, reading, reading-figures};
 use crate::body::byte_at;
 use crate::body::bytes_below;
-use crate::body::comes_before;
+use crate::body::join;
 use crate::body::labels_below;
 use crate::body::labels_of;
 use crate::body::record_at;
@@ -124,24 +124,21 @@ fn fields_fit(l: Layout, m: Move) -> bool
     (m.outcome as usize) < l.states
 }
 
-// What is wrong with record k: its fields are judged, and then its order after the one before it.
-fn judge_record(l: Layout, k: usize, last: Move, m: Move) -> Verdict
+// What is wrong with record k, where last is the one before it, joined: its fields are judged, and then its order.
+fn judge_record(l: Layout, k: usize, last: u64, m: Move) -> Verdict
     requires { ⌜ k ≤ 65535 ⌝ }
     ensures { λ r. ⌜ verdict-fault r ≡ fault-after l k last m ⌝ }
 {
     if !fields_fit(l, m) {
         return Verdict::Bad(Refusal::Field(k as u32));
     }
-    if k == 0 {
+    if last < join(m) {
         return Verdict::Good;
     }
-    if !comes_before(last, m) {
-        return Verdict::Bad(Refusal::Order(k as u32));
-    }
-    Verdict::Good
+    Verdict::Bad(Refusal::Order(k as u32))
 }
 
-// The records are judged from the front, up to the first bad one.
+// The records are judged from the front, up to the first bad one. Before record 0 stands 0, which lies below every record that is joined.
 fn judge_records(job: &[u8], l: Layout) -> Verdict
     requires { ⌜ Laid (now job) l ⌝ }
     requires { ⌜ l .records ≤ 65535 ⌝ }
@@ -149,18 +146,14 @@ fn judge_records(job: &[u8], l: Layout) -> Verdict
 {
     let n = l.records;
     let at = l.moves_at;
-    let mut last = Move {
-        state: 0,
-        action: 0,
-        outcome: 0,
-    };
+    let mut last: u64 = 0;
     let mut k: usize = 0;
     while k < n {
         let m = record_at(job, at + 3 * k);
         match judge_record(l, k, last, m) {
             Verdict::Bad(why) => return Verdict::Bad(why),
             Verdict::Good => {
-                last = m;
+                last = join(m);
                 k += 1;
             }
         }

@@ -4,7 +4,8 @@ ghost use Prim.Native.Nat.{_+_, _*_, _%_, _^_, _≤_, _<_};
 ghost use lib.Dec.{ltb};
 ghost use lib.ListN.{length, getD};
 ghost use Rattle.game.specs.Below.{every-below};
-ghost use Rattle.rules.specs.Bytes.{word, record-at, before};
+ghost use Rattle.rules.specs.Bytes.{word, record-at};
+ghost use Rattle.job.specs.Joined.{joined};
 use rules::place::Move;
 
 // The bit of a label's byte that marks its state as busy. The label is below it.
@@ -44,22 +45,11 @@ pub fn record_at(job: &[u8], at: usize) -> Move
     }
 }
 
-// Whether one record comes before another, compared field by field.
-pub fn comes_before(m: Move, n: Move) -> bool
-    ensures { λ r. ⌜ r ≡ before m n ⌝ }
+// A record's three fields joined into one number, above 0.
+pub fn join(m: Move) -> u64
+    ensures { λ r. ⌜ r ≡ joined m ⌝ }
 {
-    if m.state < n.state {
-        return true;
-    }
-    if m.state == n.state {
-        if m.action < n.action {
-            return true;
-        }
-        if m.action == n.action {
-            return m.outcome < n.outcome;
-        }
-    }
-    false
+    ((m.state as u64) * 256 + (m.action as u64)) * 65536 + (m.outcome as u64) + 1
 }
 
 // How many labels there are of so many propositions.

@@ -1,12 +1,14 @@
--- `accept::judge_records` meets its contract: nothing is wrong with the records passed, and `last` is the one before the next.
+-- `accept::judge_records` meets its contract: nothing is wrong with the records passed, and `last` is the one before the next, joined.
 use borrow.Author.Needs.{needs}
 use mathlib.Core.Path.{_≡_, refl, sym, ap, _∙_}
-use Prim.Native.Nat.{_-_, _≤_}
+use Prim.Native.Nat.{ℕ, _-_, _≤_, _<_}
 use native.Mathlib.Omega.{arith}
+use lib.ListN.{getD}
 use Rattle.rules.specs.Fault.{Fault}
 use Rattle.rules.specs.Bytes.{said, record-fault, records-fault}
 use Rattle.rules.proofs.Faults.{records-more, records-stop, records-none}
 use Rattle.rules.proofs.Figures.{refusal-some}
+use Rattle.job.specs.Joined.{joined}
 use Rattle.job.specs.Reading.{verdict-fault}
 use Rattle.job.proofs.Laying.{Bodies, bodies, previous, fault-is, previous-is}
 use Rattle.job.proofs.accept.judge_records.Statement.{statement}
@@ -30,8 +32,10 @@ judged : (c : tie.After-judge-record Inv-loop μ-loop)
 judged c =
     let t = c .before .before .before in
     let s = t .before .before in
+    let b = s .args .job .now in
+    let byte : (i : ℕ) → getD b i 0 < 256 = λ i. omega (arith, t .before .shared-slice-known .given i) in
     c .judge-record .ensures
-    ∙ rw (c .before .record-at .ensures, t .loop .inv .2) (fault-is (s .args .job .now) (s .args .l) (s .pre .0 .is-layout) (t .loop .k))
+    ∙ rw (c .before .record-at .ensures, t .loop .inv .2) (fault-is b (s .args .l) byte (s .pre .0 .is-layout) (t .loop .k))
 
 loop-holds : tie.Need-loop-holds Inv-loop μ-loop
 loop-holds c = (omega arith, refl, refl)
@@ -65,6 +69,9 @@ returns c =
 enum-told : tie.Need-enum-told Inv-loop μ-loop
 enum-told c = search needs
 
+join-requires : tie.Need-join-requires Inv-loop μ-loop
+join-requires c κs = search needs
+
 add-k : tie.Need-add-k Inv-loop μ-loop
 add-k c = omega arith
 
@@ -73,15 +80,16 @@ loop-less c = omega arith
 
 loop-again : tie.Need-loop-again Inv-loop μ-loop
 loop-again c =
-    let j = c .before .before in
+    let g = c .before in
+    let j = g .before .before in
     let r = j .before in
     let t = r .before .before in
     let s = t .before .before in
     let b = s .args .job .now in
-    let e = ap verdict-fault (sym (c .enum-told .given .1)) ∙ judged j in (
+    let e = ap verdict-fault (sym (g .enum-told .given .1)) ∙ judged j in (
       omega arith,
       records-more (said b) (t .loop .k) (t .loop .inv .1) (sym (ap (λ (f : Fault). f .number) e)),
-      r .record-at .ensures ∙ previous-is b (s .args .l) (s .pre .0 .is-layout) (t .loop .k),
+      c .join .ensures ∙ ap joined (r .record-at .ensures) ∙ previous-is b (s .args .l) (s .pre .0 .is-layout) (t .loop .k),
     )
 
 returns-2 : tie.Need-returns-2 Inv-loop μ-loop
@@ -105,6 +113,7 @@ judge-records-spec =
     enum-known-why
     returns
     enum-told
+    join-requires
     add-k
     loop-less
     loop-again
