@@ -9,7 +9,7 @@
    number, or is lost where nothing is open. The goal's automaton reads the label without the mark.
 
    The library needs no heap, keeps nothing between calls, and takes every input: what is bad is refused by number, the first fault
-   first. A refusal changes nothing in the plan buffer.
+   first. A refusal changes nothing in the buffer that you lend for a plan or a goal.
 
    What you owe: a pointer and its length describe memory of yours that holds that many bytes for as long as the call runs; a length of
    0 wants a pointer that is not null all the same; the job and the plan do not overlap; and nothing else writes to them during a call.
@@ -34,23 +34,36 @@ extern "C" {
 /* What is added to the label of a busy state. */
 #define CABINET_BUSY 128
 
+/* The longest Goal body that is written from slips: three clauses over six propositions. */
+#define CABINET_GOAL_MAX 1755
+
 /* Numbers that say no. The first in this order that applies is the answer, though 12 and 13 share one place, which the first bad record
    decides; 0 is success. */
 enum cabinet_refusal {
   CABINET_OK = 0,
-  CABINET_SHORT = 1,    /* the job is under 16 bytes */
-  CABINET_CONTENTS = 2, /* an offset or end breaks the job's layout, or Counts is not 6 bytes long */
-  CABINET_COUNTS = 3,   /* a count or a first number is out of range */
-  CABINET_LABELS = 4,   /* not one label a state, or a label that without its mark is 2^P or more */
-  CABINET_MOVES = 5,    /* Moves is not whole records, or has more than 4,096 */
-  CABINET_FIELD = 12,   /* a field of a record is out of range; `record` says which */
-  CABINET_ORDER = 13,   /* a record does not come after the one before it, compared field by field; `record` says which */
-  CABINET_GOAL = 6,     /* Goal has the wrong length, a goal state is not below Q, or a mark is above 1 */
-  CABINET_ROOM = 7,     /* the plan buffer is under 4 * S * Q bytes */
-  CABINET_ROUNDS = 8,   /* labelling would still add a place in round S * Q; proved never to happen */
-  CABINET_PLACE = 9,    /* the state is not below S, or the goal state is not below Q */
-  CABINET_ENTRY = 10,   /* the plan's entry has none of the four shapes */
-  CABINET_OUTCOME = 11  /* no record has this state, action and outcome */
+  CABINET_SHORT = 1,       /* the job is under 16 bytes */
+  CABINET_CONTENTS = 2,    /* an offset or end breaks the job's layout, or Counts is not 6 bytes long */
+  CABINET_COUNTS = 3,      /* a count or a first number is out of range */
+  CABINET_LABELS = 4,      /* not one label a state, or a label that without its mark is 2^P or more */
+  CABINET_MOVES = 5,       /* Moves is not whole records, or has more than 4,096 */
+  CABINET_FIELD = 12,      /* a field of a record is out of range; `record` says which */
+  CABINET_ORDER = 13,      /* a record does not come after the one before it, compared field by field; `record` says which */
+  CABINET_GOAL = 6,        /* Goal has the wrong length, a goal state is not below Q, or a mark is above 1 */
+  CABINET_ROOM = 7,        /* the plan buffer is under 4 * S * Q bytes, or the Goal body has no room */
+  CABINET_ROUNDS = 8,      /* labelling would still add a place in round S * Q; proved never to happen */
+  CABINET_PLACE = 9,       /* the state is not below S, or the goal state is not below Q */
+  CABINET_ENTRY = 10,      /* the plan's entry has none of the four shapes */
+  CABINET_OUTCOME = 11,    /* no record has this state, action and outcome */
+  CABINET_NO_CLAUSES = 14, /* no clause, more than three, or a length that is no multiple of 3 */
+  CABINET_CLAUSE = 15      /* P above 6, a kind above 3, a proposition not below P, or b unlike a in kinds 0 and 1 */
+};
+
+/* The kinds of a clause, over the propositions a and b. Each is read over the labels of the states visited so far, the first one included. */
+enum cabinet_kind {
+  CABINET_EXISTENCE = 0, /* at some moment a */
+  CABINET_ABSENCE = 1,   /* at no moment a */
+  CABINET_RESPONSE = 2,  /* whenever a, then or later b */
+  CABINET_PRECEDENCE = 3 /* no b before the first a, which may come together with it; or never b */
 };
 
 /* The value of a place. */
@@ -79,6 +92,10 @@ typedef struct {
   uint32_t refusal, value, action, number, record;
 } cabinet_advised;
 
+typedef struct {
+  uint32_t refusal, length;
+} cabinet_written;
+
 /* Plans the job into the buffer: entry s * Q + q, four bytes, says of state s with goal state q its value, its action (255: none) and
    its number, low byte first. Bytes beyond the plan stay as they are. Gives 1 to 8, 12, 13. */
 cabinet_planned cabinet_plan(const uint8_t *job, size_t job_len, uint8_t *plan, size_t plan_len);
@@ -94,6 +111,14 @@ cabinet_moved cabinet_follow(const uint8_t *job, size_t job_len, uint32_t state,
    outcomes reach a winning place in `number` moves. The plan is read and never written, and trusted by the asked entry's shape only: that
    it belongs to the job is yours to see to. Gives 1 to 7, 9, 10, 12, 13. */
 cabinet_advised cabinet_advice(const uint8_t *job, size_t job_len, const uint8_t *plan, size_t plan_len, uint32_t state, uint32_t goal);
+
+/* Writes the Goal body of slips into the buffer, and returns its length; bytes beyond it stay as they are. Slips are one to three clauses that must
+   all hold, three bytes each: kind, a, b, with b the same as a in existence and absence. For n clauses and P propositions the body has 3^n goal
+   states and takes 3^n * 2^P + 3^n bytes. The job that it goes into needs, in Counts, this P, Q = 3^n and the first goal state 0; then the goal state
+   is final exactly where every clause holds on the labels of the states visited so far. A play ends at its first accepted place: absence, response
+   and precedence hold where nothing has happened yet, so on their own they are met at the start, unless the first label speaks against them. Put an
+   existence clause beside them for what has to happen. The clauses and the buffer do not overlap. Gives 14, 15 and 7, in this order. */
+cabinet_written cabinet_goal(const uint8_t *clauses, size_t clauses_len, uint32_t propositions, uint8_t *goal, size_t goal_len);
 
 /* In short:
 

@@ -8,5 +8,6 @@ pub mod Tracing
 pub mod Callers
 pub mod Advising
 pub mod Ranges
+pub mod Slips
 pub mod Looping
 pub mod Playing

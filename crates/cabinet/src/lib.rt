@@ -1,3 +1,4 @@
 // The calls for C, and the place that a caller holds.
 pub mod calls;
+pub mod goals;
 pub mod place;

@@ -1,6 +1,7 @@
 -- An answer is known by its figures: no two answers have the same, and an entry has one shape.
 use Prim.Native.Nat.{ℕ, zero, suc}
 use mathlib.Core.Bool.{true≢false}
+use mathlib.Core.Logic.{_≢_}
 use mathlib.Core.Path.{_≡_, refl, sym, ap, _∙_}
 use Rattle.rules.specs.Fault.{Fault}
 use Rattle.rules.specs.Answers.{refusal-fault, value-number, AdvisedFigures, planned-fault, advised-figures, ShapeOf}
@@ -30,7 +31,9 @@ refusal-of (suc (suc (suc (suc (suc (suc (suc (suc (suc zero))))))))) k = Refusa
 refusal-of (suc (suc (suc (suc (suc (suc (suc (suc (suc (suc zero)))))))))) k = Refusal.Entry
 refusal-of (suc (suc (suc (suc (suc (suc (suc (suc (suc (suc (suc zero))))))))))) k = Refusal.Outcome
 refusal-of (suc (suc (suc (suc (suc (suc (suc (suc (suc (suc (suc (suc zero)))))))))))) k = Refusal.Field k
-refusal-of (suc (suc (suc (suc (suc (suc (suc (suc (suc (suc (suc (suc (suc n))))))))))))) k = Refusal.Order k
+refusal-of (suc (suc (suc (suc (suc (suc (suc (suc (suc (suc (suc (suc (suc zero))))))))))))) k = Refusal.Order k
+refusal-of (suc (suc (suc (suc (suc (suc (suc (suc (suc (suc (suc (suc (suc (suc zero)))))))))))))) k = Refusal.NoClauses
+refusal-of (suc (suc (suc (suc (suc (suc (suc (suc (suc (suc (suc (suc (suc (suc (suc n))))))))))))))) k = Refusal.Clause
 
 abbrev value-of : ℕ → Value
 value-of zero = Value.Losing
@@ -52,6 +55,8 @@ refusal-back Refusal.Entry = refl
 refusal-back Refusal.Outcome = refl
 refusal-back (Refusal.Field k) = refl
 refusal-back (Refusal.Order k) = refl
+refusal-back Refusal.NoClauses = refl
+refusal-back Refusal.Clause = refl
 
 pub refusal-some : (r : Refusal) → (n : ℕ) × (refusal-fault r .number ≡ suc n)
 refusal-some Refusal.Short = (0, refl)
@@ -67,6 +72,8 @@ refusal-some Refusal.Entry = (9, refl)
 refusal-some Refusal.Outcome = (10, refl)
 refusal-some (Refusal.Field k) = (11, refl)
 refusal-some (Refusal.Order k) = (12, refl)
+refusal-some Refusal.NoClauses = (13, refl)
+refusal-some Refusal.Clause = (14, refl)
 
 pub value-back : (v : Value) → value-of (value-number v) ≡ v
 value-back Value.Losing = refl
@@ -101,6 +108,24 @@ advised-of f =
 advised-back : (r : Advised) → advised-of (advised-figures r) ≡ r
 advised-back (Advised.Says v a n) = ap (λ (w : Value). Advised.Says w a n) (value-back v)
 advised-back (Advised.Refused r) = by-refusal-back r _ Advised.Refused
+
+-- a refusal by another number than 12 and 13 names no record
+pub record-none : (r : Refusal) → refusal-fault r .number ≢ 12 → refusal-fault r .number ≢ 13 → refusal-fault r .«record» ≡ 0
+record-none (Refusal.Field k) f o = absurd (f refl)
+record-none (Refusal.Order k) f o = absurd (o refl)
+record-none Refusal.Short f o = refl
+record-none Refusal.Contents f o = refl
+record-none Refusal.Counts f o = refl
+record-none Refusal.Labels f o = refl
+record-none Refusal.Moves f o = refl
+record-none Refusal.Goal f o = refl
+record-none Refusal.Room f o = refl
+record-none Refusal.Rounds f o = refl
+record-none Refusal.Place f o = refl
+record-none Refusal.Entry f o = refl
+record-none Refusal.Outcome f o = refl
+record-none Refusal.NoClauses f o = refl
+record-none Refusal.Clause f o = refl
 
 pub planned-known : (r s : Planned) → planned-fault r ≡ planned-fault s → r ≡ s
 planned-known = known-by planned-fault planned-of planned-back

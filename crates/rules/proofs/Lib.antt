@@ -8,6 +8,7 @@ pub mod Kept
 pub mod Labels
 pub mod Arenas
 pub mod Traces
+pub mod Decided
 pub mod Figures
 pub mod Plans
 pub mod Unique

@@ -26,6 +26,8 @@ refusal-fault Refusal.Rounds = only 8
 refusal-fault Refusal.Place = only 9
 refusal-fault Refusal.Entry = only 10
 refusal-fault Refusal.Outcome = only 11
+refusal-fault Refusal.NoClauses = only 14
+refusal-fault Refusal.Clause = only 15
 
 abbrev pub value-number : Value → ℕ
 value-number Value.Losing = 0

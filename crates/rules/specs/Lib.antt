@@ -8,4 +8,6 @@ pub mod Answers
 pub mod Plan
 pub mod Calls
 pub mod Trace
+pub mod Formula
+pub mod Sat
 pub mod Examples

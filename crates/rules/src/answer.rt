@@ -17,6 +17,8 @@ pub enum Refusal {
     Place,
     Entry,
     Outcome,
+    NoClauses,
+    Clause,
 }
 
 pub enum Value {
@@ -59,6 +61,8 @@ impl Refusal {
             Refusal::Place => 9,
             Refusal::Entry => 10,
             Refusal::Outcome => 11,
+            Refusal::NoClauses => 14,
+            Refusal::Clause => 15,
         }
     }
 
@@ -80,6 +84,8 @@ impl Refusal {
             Refusal::Place => 0,
             Refusal::Entry => 0,
             Refusal::Outcome => 0,
+            Refusal::NoClauses => 0,
+            Refusal::Clause => 0,
         }
     }
 }
