@@ -31,13 +31,13 @@ install_listing = mkdir -p $(DESTDIR)$(PREFIX)/libexec && cp target/bin/listing 
   echo "The archive is for x86-64, and so is the listing: cabinet-list is a script that runs it under the toolchain's emulator."
 endif
 
-.PHONY: test plan lib examples install bench soak tests try-examples try-listing try-inputs need-rt need-cc need-cargo need-x86
+.PHONY: test plan lib examples install bench soak tests try-examples try-listing try-inputs try-slips need-rt need-cc need-cargo need-x86
 
 # Everything, from nothing: the layout of the files, the calls from C, the listing, many inputs, and last the toolchain's gate.
 test: need-rt need-cc need-cargo
 	@rt fmt --check
 	@rm -f build/libcabinet.a
-	@$(MAKE) --no-print-directory try-examples try-inputs try-listing
+	@$(MAKE) --no-print-directory try-examples try-inputs try-slips try-listing
 	@rt ci
 
 # Proves what has changed, builds, and lists a job.
@@ -56,6 +56,7 @@ build/libcabinet.a: crates.txt $(shell find crates) $(shell command -v rt 2>/dev
 
 examples: lib need-cc
 	@$(call c_program,examples/plate.c,build/plate)
+	@$(call c_program,examples/goal.c,build/goal)
 
 # The program that makes the calls of the tests, over the archive, and the independent planner with the many inputs.
 tests: lib need-cc need-cargo
@@ -65,12 +66,17 @@ tests: lib need-cc need-cargo
 try-examples: examples
 	@$(RUN) build/plate >build/plate.out
 	@diff examples/plate.out build/plate.out
+	@$(RUN) build/goal >build/goal.out
+	@diff examples/goal.out build/goal.out
 	@echo '#include "cabinet.h"' >build/header.cc
 	@$(CC) -x c++ -std=c++11 $(WARNINGS) -Iinclude -fsyntax-only build/header.cc
-	@echo "examples: One plate plays as stored, and the header is C++ too"
+	@echo "examples: One plate plays as stored, also with a goal from slips, and the header is C++ too"
 
 try-inputs: tests
 	@$(TESTS) run
+
+try-slips: tests
+	@$(TESTS) slips
 
 try-listing: tests
 	@rt check listing >build/plan.log 2>&1 || { cat build/plan.log; exit 1; }

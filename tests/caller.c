@@ -2,7 +2,8 @@
    and ends with status 0 and the count of calls when all answers were right. At the first wrong one it says which call of which input it was, and ends with status 1.
 
    A lent buffer ends at a page that can be neither read nor written, or begins right after one. The job's pages can only be read, and so can the
-   plan's but in planning that is to succeed. `caller N`, N from 0 to 5, steps over one of these fences. */
+   plan's but in a call that is to write it. Slips are lent where a job is, and a Goal body is written where a plan is. `caller N`, N from 0 to 5, steps over
+   one of these fences. */
 
 #define _DEFAULT_SOURCE
 #include <signal.h>
@@ -16,7 +17,7 @@
 #include "cabinet.h"
 
 enum { PAGE = 4096, JOB_SIZE = 20 * PAGE, PLAN_SIZE = 5 * PAGE };
-enum { INPUT, DUE, LEND, PLAN, START, FOLLOW, ADVICE, TIME };
+enum { INPUT, DUE, LEND, PLAN, START, FOLLOW, ADVICE, TIME, GOAL };
 
 /* A line: what to do, the side of the fence (1: buffers begin after it), how many bytes come after it, the call's figures, the answer that is due. */
 static struct {
@@ -95,28 +96,34 @@ static void same_bytes(const uint8_t *found, const uint8_t *due, size_t count, l
   wrong(how, byte, should, 1);
 }
 
-static cabinet_planned plan_into(const uint8_t *job, uint32_t room) {
-  uint8_t *plan = place(&plans, room);
-  size_t at = (size_t)(plan - plans.inside), end = at + due_len;
-  const uint8_t *before = pool + line.figures[1] % PLAN_SIZE;
+/* What the memory of the plan holds before a call that is to write there. */
+static const uint8_t *held_before(void) { return pool + line.figures[1] % PLAN_SIZE; }
+
+/* A buffer of this length to be written to, its memory filled; where the call is to be refused, it can only be read. */
+static uint8_t *lend(uint32_t room) {
   int good = line.due[0] == CABINET_OK;
   set_rights(&plans, good ? PROT_READ | PROT_WRITE : PROT_READ);
-  if (good) memcpy(plans.inside, before, PLAN_SIZE);
-  cabinet_planned answer = cabinet_plan(job, job_len, plan, room);
-  if (good && answer.refusal == CABINET_OK) {
-    same_bytes(plans.inside, before, at, -(long)at);
-    same_bytes(plan, due_plan, due_len, 0);
-    same_bytes(plans.inside + end, before + end, PLAN_SIZE - end, (long)due_len);
-  }
-  return answer;
+  if (good) memcpy(plans.inside, held_before(), PLAN_SIZE);
+  return place(&plans, room);
 }
 
-/* The time of so many calls of planning, in nanoseconds. */
-static void say_time(const uint8_t *job, uint32_t times) {
+/* Holds the memory of the plan to what a call that was to succeed, and did, has to leave. */
+static void same_memory(const uint8_t *lent, uint32_t refusal) {
+  if (line.due[0] != CABINET_OK || refusal != CABINET_OK) return;
+  size_t at = (size_t)(lent - plans.inside), end = at + due_len;
+  const uint8_t *before = held_before();
+  same_bytes(plans.inside, before, at, -(long)at);
+  same_bytes(lent, due_plan, due_len, 0);
+  same_bytes(plans.inside + end, before + end, PLAN_SIZE - end, (long)due_len);
+}
+
+/* The time of so many calls of planning, or of writing a goal over so many propositions, in nanoseconds. */
+static void say_time(const uint8_t *job, uint32_t times, uint32_t propositions) {
   struct timespec from, to;
   set_rights(&plans, PROT_READ | PROT_WRITE);
   clock_gettime(CLOCK_MONOTONIC, &from);
-  for (; times > 0; times--) cabinet_plan(job, job_len, plans.inside, CABINET_PLAN_MAX);
+  for (; propositions == 0 && times > 0; times--) cabinet_plan(job, job_len, plans.inside, CABINET_PLAN_MAX);
+  for (; times > 0; times--) cabinet_goal(job, job_len, propositions, plans.inside, CABINET_GOAL_MAX);
   clock_gettime(CLOCK_MONOTONIC, &to);
   printf("%lld\n", (to.tv_sec - from.tv_sec) * 1000000000LL + (to.tv_nsec - from.tv_nsec));
   fflush(stdout);
@@ -127,8 +134,15 @@ static void call(void) {
   const uint32_t *f = line.figures;
   uint32_t answer[5] = {0, 0, 0, 0, 0};
   if (line.what == PLAN) {
-    cabinet_planned planned = plan_into(job, f[0]);
+    uint8_t *lent = lend(f[0]);
+    cabinet_planned planned = cabinet_plan(job, job_len, lent, f[0]);
     answer[0] = planned.refusal, answer[1] = planned.record;
+    same_memory(lent, answer[0]);
+  } else if (line.what == GOAL) {
+    uint8_t *lent = lend(f[0]);
+    cabinet_written goal = cabinet_goal(job, job_len, f[2], lent, f[0]);
+    answer[0] = goal.refusal, answer[1] = goal.length;
+    same_memory(lent, answer[0]);
   } else if (line.what == ADVICE) {
     cabinet_advised say = cabinet_advice(job, job_len, plan, lent_len, f[0], f[1]);
     answer[0] = say.refusal, answer[1] = say.value, answer[2] = say.action, answer[3] = say.number, answer[4] = say.record;
@@ -170,7 +184,7 @@ int main(int words, char **word) {
       if (due_len > sizeof due_plan || fread(due_plan, 1, due_len, stdin) != due_len) fail("a line without its bytes");
       break;
     case LEND: lent_len = take(&plans); break;
-    case TIME: say_time(place(&jobs, job_len), line.figures[0]); break;
+    case TIME: say_time(place(&jobs, job_len), line.figures[0], line.figures[1]); break;
     default: call();
     }
   }

@@ -32,6 +32,7 @@ enum What {
     Follow,
     Advice,
     Time,
+    Goal,
 }
 
 /// What went wrong: the number of the input, which of its calls it was, and how.
@@ -121,15 +122,18 @@ impl Cases {
             Call::Start { side } => (What::Start, side, [0; 4]),
             Call::Follow { state, goal, action, outcome, side } => (What::Follow, side, [state, goal, action, outcome]),
             Call::Advice { state, goal, side, .. } => (What::Advice, side, [state, goal, 0, 0]),
+            Call::Goal { room, before, propositions, side } => {
+                (What::Goal, side, [room as u32, before, propositions, 0])
+            }
         };
         self.line(what, side, &[], figures, due);
         self.calls.push(call);
         self.made += 1;
     }
 
-    /// The seconds that so many calls of planning take.
-    pub fn time(&mut self, side: Side, times: u32) -> f64 {
-        self.line(What::Time, side, &[], [times, 0, 0, 0], [0; 5]);
+    /// The seconds that so many calls of planning take, or of writing a goal over so many propositions.
+    pub fn time(&mut self, side: Side, times: u32, propositions: u32) -> f64 {
+        self.line(What::Time, side, &[], [times, propositions, 0, 0], [0; 5]);
         let mut text = String::new();
         let answers = &mut self.caller.as_mut().expect("a caller").answers;
         self.to.flush().and_then(|()| answers.read_line(&mut text)).expect("the caller answers");

@@ -9,6 +9,7 @@ mod make;
 mod oracle;
 mod random;
 mod report;
+mod slips;
 
 use cases::Cases;
 use check::Desk;
@@ -26,6 +27,7 @@ cabinet-tests soak N [SEED]        N inputs, the fixed ones first
 cabinet-tests again SEED NUMBER    one input of a run once more
 cabinet-tests bench [DATE]         times beside other planners (or the date in BENCH_DATE)
 cabinet-tests list                 the oracle's listing of the job on standard input
+cabinet-tests slips [SEED]         goals from slips, every body byte by byte and by what it means
 cabinet-tests listings WORDS       the listing program, started by these words, beside the oracle's listing";
 
 /// Tries the inputs with these numbers, prints the counts and says whether everything has come up.
@@ -82,6 +84,12 @@ fn command(words: &[String]) -> Option<()> {
         "bench" => {
             let given = words.get(1).cloned().or_else(|| std::env::var("BENCH_DATE").ok());
             bench::bench(&given.unwrap_or_else(|| "not given".to_string()));
+        }
+        "slips" => {
+            if !slips::agree(seed_at(1)?) {
+                println!("but not every answer and every count of clauses has come up");
+                std::process::exit(1);
+            }
         }
         "list" => list(),
         "listings" if words.len() > 1 => {

@@ -38,6 +38,13 @@ pub enum Call {
         asked_entry: Option<[u8; 4]>,
         side: Side,
     },
+    /// Slips stand in the job's place; the bytes before it are chosen by a figure.
+    Goal {
+        room: usize,
+        before: u32,
+        propositions: u32,
+        side: Side,
+    },
 }
 
 impl Display for Call {
@@ -51,6 +58,9 @@ impl Display for Call {
             Call::Advice { plan_len, state, goal, asked_entry, side } => {
                 write!(to, "cabinet_advice, plan_len {plan_len}, state {state}, goal {goal}; ")?;
                 write!(to, "bytes of that entry {asked_entry:?}; {side}")
+            }
+            Call::Goal { room, propositions, side, .. } => {
+                write!(to, "cabinet_goal, propositions {propositions}, goal_len {room}; {side}")
             }
         }
     }

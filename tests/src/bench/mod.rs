@@ -30,7 +30,7 @@ pub struct Line {
 }
 
 fn by_library(cases: &mut Cases, _: &[u8], _: &mut [u8], calls: u32) -> f64 {
-    cases.time(Side::End, calls)
+    cases.time(Side::End, calls, 0)
 }
 
 fn by_plain(_: &mut Cases, job: &[u8], plan: &mut [u8], calls: u32) -> f64 {
@@ -101,4 +101,16 @@ pub fn bench(date: &str) {
         measure(cases, "deepest, all pending", &make::deepest(SEED, Doubt::AtTheEnd)),
     ];
     table::print(&lines, date, REPEATS);
+    println!();
+    println!(
+        "The longest Goal body from slips, three clauses over six propositions, is written in {}.",
+        table::unit(longest_goal(cases))
+    );
+}
+
+/// The seconds for one call that writes the longest Goal body.
+fn longest_goal(cases: &mut Cases) -> f64 {
+    const CALLS: u32 = 1_000;
+    cases.input(0, Side::End, &[2, 0, 5, 3, 4, 1, 2, 3, 2]);
+    median((0..REPEATS).map(|_| cases.time(Side::End, CALLS, 6) / f64::from(CALLS)).collect())
 }

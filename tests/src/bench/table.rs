@@ -11,7 +11,7 @@ fn machine() -> String {
 }
 
 /// A time in the unit that suits it.
-fn unit(seconds: f64) -> String {
+pub fn unit(seconds: f64) -> String {
     match seconds {
         ..1e-6 => format!("{:.0} ns", seconds * 1e9),
         ..1e-3 => format!("{:.2} µs", seconds * 1e6),

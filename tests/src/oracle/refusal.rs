@@ -12,6 +12,8 @@ pub const ENTRY: u32 = 10;
 pub const OUTCOME: u32 = 11;
 pub const FIELD: u32 = 12;
 pub const ORDER: u32 = 13;
+pub const NO_CLAUSES: u32 = 14;
+pub const CLAUSE: u32 = 15;
 
 /// Why a call says no; the record is 0 unless the number is FIELD or ORDER.
 #[derive(Clone, Copy, Debug, PartialEq, Eq)]
