@@ -15,7 +15,7 @@ use Rattle.game.specs.Below.{upto, each}
 use Rattle.rules.specs.Job.{place, places, start, arena}
 use Rattle.rules.specs.Fault.{Fault, only}
 use Rattle.rules.specs.Bytes.{fault, refusal, said}
-use Rattle.rules.specs.Plan.{blank, due, shaped}
+use Rattle.rules.specs.Plan.{blank, due, shaped, planned-entry}
 use Rattle.rules.specs.Calls.{Planning, refused, no-room, overrun, planned}
 use Rattle.game.specs.declared.entry.Entry.{Entry}
 use Rattle.rules.specs.declared.place.Place.{Place}
@@ -27,7 +27,7 @@ use Rattle.cabinet.proofs.Advising.{right-shaped}
 use Rattle.text.specs.Lines.{decimal, bytes, value-word, action-word, line-of, entry-line, start-line, names-record, refusal-line}
 use Rattle.text.proofs.Digits.{decimal-length}
 use Rattle.text.proofs.Putting.{put-whole}
-use Rattle.listing.specs.Listing.{planned-entry, first-line, place-line, lines, Prints, refuses, lists}
+use Rattle.listing.specs.Listing.{first-line, place-line, lines, Prints, refuses, lists}
 use Rattle.listing.specs.Told.{Printed}
 use Rattle.listing.proofs.Telling.{each-last}
 use Rattle.listing.proofs.Listings.{keeps}

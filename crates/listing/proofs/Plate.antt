@@ -5,6 +5,7 @@ use mathlib.Core.Path.{_≡_, refl, ap, _∙_}
 use native.Mathlib.Omega.{arith}
 use lib.ListN.{length, set}
 use Rattle.game.specs.Game.{Inside}
+use Rattle.rules.specs.Plan.{planned-entry}
 use Rattle.rules.specs.Job.{place, start, arena}
 use Rattle.rules.specs.Fault.{only}
 use Rattle.rules.specs.Bytes.{said}
@@ -21,7 +22,7 @@ use Rattle.rules.proofs.Kept.{kept}
 use Rattle.rules.proofs.Arenas.{inside-iff, start-inside, arena-lawful}
 use Rattle.rules.proofs.Planned.{planned-exactly, planned-right}
 use Rattle.text.specs.Lines.{decimal-in, decimal, bytes, entry-line, start-line}
-use Rattle.listing.specs.Listing.{planned-entry, place-line, lines, listing, Prints, refuses, lists}
+use Rattle.listing.specs.Listing.{place-line, lines, listing, Prints, refuses, lists}
 use Rattle.listing.proofs.Telling.{lines-same}
 use Rattle.listing.proofs.Listings.{keeps}
 use Rattle.listing.proofs.Printing.{prints-refusal}

@@ -3,18 +3,12 @@ use Prim.Native.Nat.{ℕ}
 use mathlib.Core.List.{List, _++_}
 use mathlib.Core.Path.{_≡_}
 use Rattle.game.specs.Below.{upto, each}
-use Rattle.rules.specs.Job.{Job, place, entry-number, start}
+use Rattle.rules.specs.Job.{Job, place, start}
 use Rattle.rules.specs.Fault.{Fault, only}
 use Rattle.rules.specs.Bytes.{said}
-use Rattle.rules.specs.Plan.{entry}
+use Rattle.rules.specs.Plan.{planned-entry}
 use Rattle.rules.specs.Calls.{Planning}
-use Rattle.game.specs.declared.entry.Entry.{Entry}
-use Rattle.rules.specs.declared.place.Place.{Place}
 use Rattle.text.specs.Lines.{entry-line, start-line, refusal-line}
-
--- what the plan p says of a place
-abbrev pub planned-entry : Job → List ℕ → Place → Entry
-planned-entry j p x = entry p (entry-number (j .goals) x)
 
 -- the first line: the starting place, and the value that the plan gives it
 abbrev pub first-line : Job → List ℕ → List ℕ

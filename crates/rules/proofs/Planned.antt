@@ -11,7 +11,7 @@ use Rattle.rules.specs.Job.{places, entry-number, arena}
 use Rattle.rules.specs.Fault.{Fault, only}
 use Rattle.rules.specs.Bytes.{said}
 use Rattle.rules.specs.Keeps.{Keeps}
-use Rattle.rules.specs.Plan.{entry, room}
+use Rattle.rules.specs.Plan.{entry, room, planned-entry}
 use Rattle.rules.specs.Calls.{Planning, refused, no-room, overrun, planned}
 use Rattle.rules.specs.declared.place.Place.{Place}
 use Rattle.game.specs.declared.entry.Entry.{Entry}
@@ -19,9 +19,9 @@ use Rattle.rules.proofs.Kept.{kept}
 use Rattle.rules.proofs.Arenas.{inside-iff}
 use Rattle.rules.proofs.Unique.{no-overrun}
 
--- what a buffer says of a place
+-- what a buffer says of a place of the job that b says
 abbrev pub entry-of : (b after : List ℕ) → Place → Entry
-entry-of b after p = entry after (entry-number (said b .goals) p)
+entry-of b = planned-entry (said b)
 
 -- A job is planned exactly when it keeps the rules and the plan has room.
 pub planned-exactly : {b before after : List ℕ} {f : Fault} → Planning b before f after

@@ -8,11 +8,16 @@ use lib.ListN.{length, getD}
 use Rattle.game.specs.Game.{Right}
 use Rattle.rules.specs.Job.{Job, place, places, entry-number, arena}
 use Rattle.rules.specs.Bytes.{word}
+use Rattle.rules.specs.declared.place.Place.{Place}
 use Rattle.game.specs.declared.entry.Entry.{Entry}
 
 -- the entry i of a plan
 abbrev pub entry : List ℕ → ℕ → Entry
 entry p i = record { value = getD p (4 * i) 0; action = getD p (4 * i + 1) 0; number = word p (4 * i + 2) }
+
+-- what the plan p of a job says of a place
+abbrev pub planned-entry : Job → List ℕ → Place → Entry
+planned-entry j p x = entry p (entry-number (j .goals) x)
 
 -- the byte d of an entry
 abbrev pub entry-byte : Entry → ℕ → ℕ
@@ -33,7 +38,7 @@ room j = 4 * places j
 pub record Plan (j : Job) (p : List ℕ) : Type 0 where
   pub long : length p ≡ room j
   pub bytes : (y : ℕ) → y < length p → getD p y 0 < 256
-  pub right : (s q : ℕ) → s < j .states → q < j .goals → Right (arena j) (place s q) (entry p (entry-number (j .goals) (place s q)))
+  pub right : (s q : ℕ) → s < j .states → q < j .goals → Right (arena j) (place s q) (planned-entry j p (place s q))
 
 -- no action and no number; an action and a number in their ranges, where n is the count of places
 abbrev pub blank : Entry → Bool
