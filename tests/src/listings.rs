@@ -8,8 +8,8 @@ use std::io::Write;
 use std::process::{Command, Output, Stdio};
 use std::time::{Duration, Instant};
 
-/// Jobs of the ordinary run: the first ones, which are given before the edges, and some of the mixed ones; and those made for the listing.
-const GIVEN: u64 = 7;
+/// Jobs of the ordinary run: the first ones and some of the mixed ones; and those made for the listing, beside the edges.
+const GIVEN: u64 = 30;
 const MIXED: u64 = 300;
 const MADE: u64 = 300;
 /// One in so many is handed over in pieces.
@@ -58,12 +58,13 @@ impl Seen {
         let refusals = (1..=6).map(|refusal| format!("refused {refusal}"));
         let records = [12, 13].map(|refusal| [true, false].map(|long| format!("refused {refusal} {long}"))).concat();
         let words = values.map(String::from).into_iter().chain(refusals).chain(records);
-        let all_words = words.into_iter().all(|word| self.words.contains(&word));
-        self.largest_plan
-            && self.number > 999
-            && (0..16).all(|action| self.actions.contains(&action))
-            && all_words
-            && self.overlong
+        let missing: Vec<String> = words.filter(|word| !self.words.contains(word)).collect();
+        let actions: Vec<usize> = (0..16).filter(|action| !self.actions.contains(action)).collect();
+        let all = missing.is_empty() && actions.is_empty() && self.largest_plan && self.number > 999 && self.overlong;
+        if !all {
+            println!("missing words {missing:?} and actions {actions:?}; largest number {}", self.number);
+        }
+        all
     }
 }
 
@@ -106,13 +107,15 @@ fn pieces_come_apart(words: &[String], pause: Duration) {
 /// Ends the run at the first text that differs; otherwise says whether everything has come up.
 pub fn agree(words: &[String], seed: u64) -> bool {
     let inputs = Inputs::new(seed);
-    let fixed = (0..GIVEN + make::known::edges().len() as u64).map(|number| inputs.get(number));
+    let edges = make::known::edges().into_iter().map(|(job, _)| job);
+    let edges = edges.enumerate().map(|(number, job)| Input { seed, number: number as u64, kind: "edge", job });
+    let given = (0..GIVEN).map(|number| inputs.get(number));
     let made =
         (0..MADE).map(|number| Input { seed, number, kind: "made for the listing", job: make::listed(seed, number) });
     let mixed = (0..MIXED).map(|number| inputs.get(inputs.fixed() + number));
     let (mut seen, mut count, pause) = (Seen::default(), 0, pause(words));
     pieces_come_apart(words, pause);
-    for input in fixed.chain(made).chain(mixed) {
+    for input in given.chain(edges).chain(made).chain(mixed) {
         let random = &mut Random::new(!seed, input.number);
         let pieces = if count % IN_PIECES == 0 { random.between(1, 4) } else { 0 };
         let mut cuts: Vec<usize> = (0..pieces).map(|_| random.below(input.job.len() + 1)).collect();
