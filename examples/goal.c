@@ -1,11 +1,11 @@
-/* One plate with a goal from slips: the clauses are written into the job as its Goal body, read aloud, and the job is planned and played. */
+/* One plate with a goal from slips: the clauses are written into the job as its Goal body, read aloud, and the job is planned, listed and played. */
 
 #include <stdio.h>
 
 #include "cabinet.h"
 
 /* States 0 drawer, 1 stage, 2 just exposed, 3 broken; actions 0 lift, 1 expose, 2 return; propositions 0 exposed, 1 in the drawer. */
-enum { EXPOSED, IN_DRAWER, PROPOSITIONS, GOAL_AT = 0x2C, GOAL_STATES = 9 };
+enum { EXPOSED, IN_DRAWER, PROPOSITIONS, GOAL_AT = 0x2C, STATES = 4, GOAL_STATES = 9 };
 
 static const uint8_t clauses[] = {
     CABINET_EXISTENCE, EXPOSED, EXPOSED,
@@ -15,7 +15,7 @@ static const uint8_t clauses[] = {
 /* The job of document 01 up to its Goal body; Counts has Q = 9, for two clauses, and the first goal state 0. */
 static uint8_t job[GOAL_AT + CABINET_GOAL_MAX] = {
     0x10, 0x00, 0x06, 0x00, 0x16, 0x00, 0x04, 0x00, 0x1A, 0x00, 0x12, 0x00, GOAL_AT, 0x00, 0x00, 0x00, /* contents */
-    0x04, 0x03, PROPOSITIONS, GOAL_STATES, 0x00, 0x00,                                                 /* Counts */
+    STATES, 0x03, PROPOSITIONS, GOAL_STATES, 0x00, 0x00,                                               /* Counts */
     0x02, 0x00, 0x01, 0x00,                                                                            /* Labels */
     0x00, 0x00, 0x01, 0x00, 0x00, 0x03, 0x01, 0x01, 0x01,                                              /* Moves */
     0x01, 0x01, 0x02, 0x01, 0x02, 0x00, 0x02, 0x02, 0x00,
@@ -51,6 +51,22 @@ static void play(size_t job_len, const uint8_t *plan, size_t plan_len, const uin
   if (at.refusal != CABINET_OK) printf("refused %u\n", (unsigned)at.refusal);
 }
 
+/* Lists the plan as the listing program does: the starting place, and then every place. */
+static void list(size_t job_len, const uint8_t *plan, size_t plan_len) {
+  cabinet_moved at = cabinet_start(job, job_len);
+  cabinet_advised say = cabinet_advice(job, job_len, plan, plan_len, at.state, at.goal);
+  printf("start %u %u %s\n", (unsigned)at.state, (unsigned)at.goal, values[say.value]);
+  for (uint32_t s = 0; s < STATES; s++)
+    for (uint32_t q = 0; q < GOAL_STATES; q++) {
+      say = cabinet_advice(job, job_len, plan, plan_len, s, q);
+      printf("%u %u %s ", (unsigned)s, (unsigned)q, values[say.value]);
+      if (say.action == CABINET_NO_ACTION)
+        printf("- %u\n", (unsigned)say.number);
+      else
+        printf("%u %u\n", (unsigned)say.action, (unsigned)say.number);
+    }
+}
+
 int main(void) {
   static uint8_t plan[CABINET_PLAN_MAX];
   cabinet_written goal = cabinet_goal(clauses, sizeof clauses, PROPOSITIONS, job + GOAL_AT, sizeof job - GOAL_AT);
@@ -64,9 +80,12 @@ int main(void) {
 
   cabinet_planned planned = cabinet_plan(job, job_len, plan, sizeof plan);
   if (planned.refusal != CABINET_OK) {
-    printf("refused %u\n", (unsigned)planned.refusal);
+    printf("refused %u", (unsigned)planned.refusal);
+    if (planned.refusal == CABINET_FIELD || planned.refusal == CABINET_ORDER) printf(" %u", (unsigned)planned.record); /* the bad record */
+    printf("\n");
     return 1;
   }
+  list(job_len, plan, sizeof plan);
   static const uint32_t lucky[] = {1, 1, 2, 0}, broken[] = {3};
   puts("with luck");
   play(job_len, plan, sizeof plan, lucky, 4);

@@ -55,7 +55,9 @@ int main(void) {
   static uint8_t plan[CABINET_PLAN_MAX];
   cabinet_planned planned = cabinet_plan(job, sizeof job, plan, sizeof plan);
   if (planned.refusal != CABINET_OK) {
-    printf("refused %u\n", (unsigned)planned.refusal);
+    printf("refused %u", (unsigned)planned.refusal);
+    if (planned.refusal == CABINET_FIELD || planned.refusal == CABINET_ORDER) printf(" %u", (unsigned)planned.record); /* the bad record */
+    printf("\n");
     return 1;
   }
   for (uint32_t seed = 1; seed <= 4; seed++) {

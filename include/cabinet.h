@@ -37,8 +37,8 @@ extern "C" {
 /* The longest Goal body that is written from slips: three clauses over six propositions. */
 #define CABINET_GOAL_MAX 1755
 
-/* Numbers that say no. The first in this order that applies is the answer, though 12 and 13 share one place, which the first bad record
-   decides; 0 is success. */
+/* Numbers that say no; 0 is success. In a call that reads a job the first in this order that applies is the answer, though 12 and 13 share
+   one place, which the first bad record decides. In `cabinet_goal` 14 and 15 come before 7. */
 enum cabinet_refusal {
   CABINET_OK = 0,
   CABINET_SHORT = 1,       /* the job is under 16 bytes */
@@ -116,7 +116,8 @@ cabinet_advised cabinet_advice(const uint8_t *job, size_t job_len, const uint8_t
    all hold, three bytes each: kind, a, b, with b the same as a in existence and absence. For n clauses and P propositions the body has 3^n goal
    states and takes 3^n * 2^P + 3^n bytes. The job that it goes into needs, in Counts, this P, Q = 3^n and the first goal state 0; then the goal state
    is final exactly where every clause holds on the labels of the states visited so far. A play ends at its first accepted place: absence, response
-   and precedence hold where nothing has happened yet, so on their own they are met at the start, unless the first label speaks against them. Put an
+   and precedence hold where nothing has happened yet, so on their own they are met at the start, unless the first label speaks against them or the
+   first state is busy. Put an
    existence clause beside them for what has to happen. The clauses and the buffer do not overlap. Gives 14, 15 and 7, in this order. */
 cabinet_written cabinet_goal(const uint8_t *clauses, size_t clauses_len, uint32_t propositions, uint8_t *goal, size_t goal_len);
 

@@ -1,7 +1,7 @@
 -- The call that writes a Goal body: what its promise says of a refusal, that it determines the figures and the whole buffer, which numbers
 -- it gives, and what the body means in a job.
 use Prim.Native.Nat.{ℕ, _≤_}
-use mathlib.Core.Bool.{true}
+use mathlib.Core.Bool.{true, false}
 use mathlib.Core.List.{List}
 use mathlib.Core.Logic.{_⊎_, _↔_}
 use mathlib.Core.Path.{_≡_, refl, sym, ap₂}
@@ -17,7 +17,7 @@ use Rattle.slips.specs.Clauses.{AllHold}
 use Rattle.slips.specs.Playing.{goal-body}
 use Rattle.slips.specs.Writing.{clauses, slips-refusal, Writing, refused, written}
 use Rattle.slips.proofs.Bodies.{writing-few}
-use Rattle.slips.proofs.Plays.{slips-final}
+use Rattle.slips.proofs.Plays.{slips-final, slips-met}
 use Rattle.slips.proofs.Unique.{writing-unique, writing-range}
 use Rattle.slips.proofs.Written.{goal-from}
 use Rattle.cabinet.specs.declared.goals.WrittenFigures.{WrittenFigures}
@@ -51,3 +51,11 @@ pub goal-played : {s before after b : List ℕ} {p : ℕ} (r : WrittenFigures) �
     → {h : Play Place} → Goes (arena (said b)) (begin (start (said b))) h
     → (said b .final (last h .goal) ≡ true) ↔ AllHold (clauses s) (trace (label-of (said b)) h)
 goal-played {b = b} r w z keeps same first body g = slips-final keeps (goal-from b w z same first body) g
+
+-- The goal is met there exactly when they hold and the state is not busy.
+pub goal-met : {s before after b : List ℕ} {p : ℕ} (r : WrittenFigures) → GoalCalled s p before r after → r .refusal ≡ 0
+    → Keeps b → said b .propositions ≡ p → said b .first-goal ≡ 0 → goal-body b ≡ take (r .length) after
+    → {h : Play Place} → Goes (arena (said b)) (begin (start (said b))) h
+    → (arena (said b) .accepted (last h) ≡ true)
+    ↔ (AllHold (clauses s) (trace (label-of (said b)) h) × (said b .busy (last h .state) ≡ false))
+goal-met {b = b} r w z keeps same first body g = slips-met keeps (goal-from b w z same first body) g

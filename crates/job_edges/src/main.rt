@@ -20,7 +20,7 @@ fn write(text: &[u8]) {
     io::write_all(libc::STDOUT_FILENO, text);
 }
 
-// The number, and after 12 and 13 the record.
+// The number, and after 12 and 13, which of those that reading gives are the ones above 11, the record.
 fn say_refused(why: Refusal) {
     let number = why.number();
     write(b" refused ");
