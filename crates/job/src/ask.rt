@@ -2,9 +2,9 @@
 ghost use mathlib.Core.Path.{_≡_};
 ghost use Prim.Native.Nat.{_<_};
 ghost use Rattle.rules.specs.Job.{place, entered, is-record, arena};
-ghost use Rattle.rules.specs.Bytes.{said};
+ghost use Rattle.rules.specs.Bytes.{said, before};
 ghost use Rattle.job.specs.Layout.{Fit};
-ghost use Rattle.job.specs.Found.{FoundOf};
+ghost use Rattle.job.specs.Found.{FoundOf, triple, Parted};
 use crate::body::BUSY;
 use crate::body::byte_at;
 use crate::body::labels_of;
@@ -108,19 +108,50 @@ fn is_move(m: Move, s: usize, a: usize, t: usize) -> bool
     m.outcome as usize == t
 }
 
-// The record with this state, action and outcome: there is at most one.
+// Whether a record comes before this state, action and outcome, compared field by field.
+fn is_before(m: Move, s: usize, a: usize, t: usize) -> bool
+    ensures { λ r. ⌜ r ≡ before m (triple s a t) ⌝ }
+{
+    if m.state as usize != s {
+        return (m.state as usize) < s;
+    }
+    if m.action as usize != a {
+        return (m.action as usize) < a;
+    }
+    (m.outcome as usize) < t
+}
+
+// How many records come before this state, action and outcome. Records ascend, so each look halves the range in doubt.
+fn count_before(job: &[u8], l: Layout, s: usize, a: usize, t: usize) -> usize
+    requires { ⌜ Fit (now job) l ⌝ }
+    ensures { λ r. ⌜ Parted (said (now (job .entry))) (triple s a t) r r ⌝ }
+{
+    let mut low: usize = 0;
+    let mut high = l.records;
+    while low < high {
+        let middle = low + (high - low) / 2;
+        let m = move_at(job, l, middle);
+        if is_before(m, s, a, t) {
+            low = middle + 1;
+        } else {
+            high = middle;
+        }
+    }
+    low
+}
+
+// The record with this state, action and outcome: there is at most one, and it is the first that does not come before them.
 pub fn find(job: &[u8], l: Layout, s: usize, a: usize, t: usize) -> Found
     requires { ⌜ Fit (now job) l ⌝ }
     ensures { λ r. ⌜ FoundOf (said (now (job .entry))) s a t r ⌝ }
 {
-    let n = l.records;
-    let mut k: usize = 0;
-    while k < n {
-        let m = move_at(job, l, k);
-        if is_move(m, s, a, t) {
-            return Found::At(k);
-        }
-        k += 1;
+    let k = count_before(job, l, s, a, t);
+    if l.records <= k {
+        return Found::Nothing;
+    }
+    let m = move_at(job, l, k);
+    if is_move(m, s, a, t) {
+        return Found::At(k);
     }
     Found::Nothing
 }

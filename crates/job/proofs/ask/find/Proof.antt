@@ -1,83 +1,58 @@
--- `find` meets its contract: no record passed has the fields.
-use Prim.Native.Nat.{ℕ, _≤_, _<_, _-_}
-use mathlib.Core.Bool.{Bool, false}
+-- `find` meets its contract: a record that has the fields is the first that does not come before them.
 use mathlib.Core.Path.{_≡_, sym, _∙_, ap}
 use native.Mathlib.Omega.{arith}
 use borrow.Author.Needs.{needs}
-use Rattle.game.specs.Below.{some-below}
-use Rattle.rules.specs.Job.{Job, is-record}
+use Rattle.rules.specs.Job.{is-record}
 use Rattle.rules.specs.Bytes.{said}
 use Rattle.rules.specs.declared.place.Move.{Move}
-use Rattle.game.proofs.Tests.{some-more, some-stops}
+use Rattle.rules.proofs.Arenas.{recorded-iff}
 use Rattle.job.proofs.Asking.{records-said}
+use Rattle.job.proofs.Finding.{found-nowhere}
 use Rattle.job.proofs.ask.find.Statement.{statement}
 use Rattle.job.proofs.ask.find.Tie as tie
 
--- record k has the fields
-abbrev has : Job → ℕ → ℕ → ℕ → ℕ → Bool
-has j s a t k = is-record (j .move k) s a t
+count-before-requires : tie.Need-count-before-requires
+count-before-requires c κs = search needs
 
-abbrev Inv-loop : tie.InvT-loop
-Inv-loop job l s a t n k₀ k = (k ≤ n) × (some-below k (has (said job) s a t) ≡ false)
+returns : tie.Need-returns
+returns c =
+    let d = c .before .before in
+    let x = d .before .before in
+    let none = c .if1 .taken in
+    found-nowhere (x .pre .keeps) (x .args .s) (x .args .a) (x .args .t) (d .count-before .ensures)
+    (λ h. absurd (omega (arith, records-said (x .pre))))
 
-abbrev μ-loop : tie.MeasureT-loop
-μ-loop job l s a t n k₀ k = n - k
-
-loop-holds : tie.Need-loop-holds Inv-loop μ-loop
-loop-holds c = search needs
-
-move-at-requires : tie.Need-move-at-requires Inv-loop μ-loop
+move-at-requires : tie.Need-move-at-requires
 move-at-requires c κs = search needs
 
-is-move-requires : tie.Need-is-move-requires Inv-loop μ-loop
+is-move-requires : tie.Need-is-move-requires
 is-move-requires c κs = search needs
 
--- what was answered of a record says whether record k has the fields
-answered : (c : tie.After-is-move Inv-loop μ-loop) → let x = c .before .before .before .before .before .args in
-    c .is-move .result ≡ has (said (x .job .now)) (x .s) (x .a) (x .t) (c .before .before .before .loop .k)
+-- what was answered of the record says whether it has the fields
+answered : (c : tie.After-is-move) → let d = c .before .before .before .before in
+    let x = d .before .before .args in
+    c .is-move .result ≡ is-record (said (x .job .now) .move (d .count-before .result)) (x .s) (x .a) (x .t)
 answered c =
-    let x = c .before .before .before .before .before .args in
+    let x = c .before .before .before .before .before .before .args in
     c .is-move .ensures ∙ ap (λ (m : Move). is-record m (x .s) (x .a) (x .t)) (c .before .move-at .ensures)
 
-returns : tie.Need-returns Inv-loop μ-loop
-returns c =
-    let x = c .before .before .before .before .before .before in
-    let j = said (x .args .job .now) in
-    let k = c .before .before .before .before .loop .k in
-    let h : k < j .records = omega (arith, records-said (x .pre)) in
-    let e = sym (answered (c .before)) ∙ c .if1 .taken in
-    (some-stops (has j (x .args .s) (x .args .a) (x .args .t)) (j .records) k h e, h, e)
-
-add-k : tie.Need-add-k Inv-loop μ-loop
-add-k c = search needs
-
-loop-less : tie.Need-loop-less Inv-loop μ-loop
-loop-less c = search needs
-
-loop-again : tie.Need-loop-again Inv-loop μ-loop
-loop-again c =
-    let x = c .before .before .before .before .before .before .args in
-    let at = c .before .before .before .before .loop in
-    let e = sym (answered (c .before)) ∙ c .if1 .left in
-    (omega arith, some-more (has (said (x .job .now)) (x .s) (x .a) (x .t)) (at .k) (at .inv .1) e)
-
-returns-2 : tie.Need-returns-2 Inv-loop μ-loop
+returns-2 : tie.Need-returns-2
 returns-2 c =
-    let x = c .before .before .before in
-    let e : c .before .loop .k ≡ said (x .args .job .now) .records = omega (arith, records-said (x .pre)) in
-    rw (← e) (c .before .loop .inv .1)
+    let o = c .before .before .before in
+    let d = o .before .before in
+    let x = d .before .before in
+    let h = rw (records-said (x .pre)) at (o .if1 .left) in
+    let e = sym (answered (c .before)) ∙ c .if2 .taken in
+    (recorded-iff (said (x .args .job .now)) (x .args .s) (x .args .a) (x .args .t) .1 (d .count-before .result, h, e), h, e)
+
+returns-3 : tie.Need-returns-3
+returns-3 c =
+    let d = c .before .before .before .before .before in
+    let x = d .before .before in
+    found-nowhere (x .pre .keeps) (x .args .s) (x .args .a) (x .args .t) (d .count-before .ensures)
+    (λ h. sym (answered (c .before)) ∙ c .if2 .left)
 
 pub find-spec : {M : Type 1} → statement M
 find-spec =
     tie.close
-    (tie.spec
-    Inv-loop
-    μ-loop
-    loop-holds
-    move-at-requires
-    is-move-requires
-    returns
-    add-k
-    loop-less
-    loop-again
-    returns-2)
+    (tie.spec count-before-requires returns move-at-requires is-move-requires returns-2 returns-3)
