@@ -1,4 +1,5 @@
-/* One plate, planned and played: asks for advice, draws an outcome from the table, follows it, and says each move in words. */
+/* One plate, planned and played: asks for advice, draws an outcome from the table, follows it, and says each move in words, with the number
+   of its record in the table. */
 
 #include <stdio.h>
 
@@ -41,13 +42,14 @@ static void play(const uint8_t *plan, size_t plan_len, uint32_t seed) {
       puts(say.value == CABINET_WINNING ? ", and the goal is met" : ", and the goal is lost");
       return;
     }
-    printf(" by %u, so %s\n", (unsigned)say.number, actions[say.action]);
+    printf(" by %u, so %s", (unsigned)say.number, actions[say.action]);
     uint32_t outcome = outcome_of(at.state, say.action, &seed);
     at = cabinet_follow(job, sizeof job, at.state, at.goal, say.action, outcome);
     if (at.refusal != CABINET_OK) { /* the table does not list the outcome, and a refusal's figures are no place */
-      printf("refused %u\n", (unsigned)at.refusal);
+      printf(", refused %u\n", (unsigned)at.refusal);
       return;
     }
+    printf(" (record %u)\n", (unsigned)at.record); /* the move that was made, as the table numbers it */
   }
 }
 

@@ -17,7 +17,7 @@
 #include "cabinet.h"
 
 enum { PAGE = 4096, JOB_SIZE = 20 * PAGE, PLAN_SIZE = 5 * PAGE };
-enum { INPUT, DUE, LEND, PLAN, START, FOLLOW, ADVICE, TIME, GOAL };
+enum { INPUT, DUE, LEND, PLAN, START, FOLLOW, ADVICE, TIME, GOAL, TIME_START, TIME_FOLLOW };
 
 /* A line: what to do, the side of the fence (1: buffers begin after it), how many bytes come after it, the call's figures, the answer that is due. */
 static struct {
@@ -129,6 +129,20 @@ static void say_time(const uint8_t *job, uint32_t times, uint32_t propositions) 
   fflush(stdout);
 }
 
+/* The time of so many calls of starting, or of following from goal state 0, in nanoseconds. */
+static void say_move_time(const uint8_t *job) {
+  const uint32_t *f = line.figures;
+  struct timespec from, to;
+  uint32_t times = f[0], refused = 0;
+  clock_gettime(CLOCK_MONOTONIC, &from);
+  for (; line.what == TIME_START && times > 0; times--) refused |= cabinet_start(job, job_len).refusal;
+  for (; times > 0; times--) refused |= cabinet_follow(job, job_len, f[1], 0, f[2], f[3]).refusal;
+  clock_gettime(CLOCK_MONOTONIC, &to);
+  if (refused != CABINET_OK) fail("a timed move is refused");
+  printf("%lld\n", (to.tv_sec - from.tv_sec) * 1000000000LL + (to.tv_nsec - from.tv_nsec));
+  fflush(stdout);
+}
+
 static void call(void) {
   const uint8_t *job = place(&jobs, job_len), *plan = place(&plans, lent_len);
   const uint32_t *f = line.figures;
@@ -185,6 +199,8 @@ int main(int words, char **word) {
       break;
     case LEND: lent_len = take(&plans); break;
     case TIME: say_time(place(&jobs, job_len), line.figures[0], line.figures[1]); break;
+    case TIME_START:
+    case TIME_FOLLOW: say_move_time(place(&jobs, job_len)); break;
     default: call();
     }
   }

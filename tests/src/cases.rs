@@ -33,6 +33,8 @@ enum What {
     Advice,
     Time,
     Goal,
+    TimeStart,
+    TimeFollow,
 }
 
 /// What went wrong: the number of the input, which of its calls it was, and how.
@@ -133,7 +135,21 @@ impl Cases {
 
     /// The seconds that so many calls of planning take, or of writing a goal over so many propositions.
     pub fn time(&mut self, side: Side, times: u32, propositions: u32) -> f64 {
-        self.line(What::Time, side, &[], [times, propositions, 0, 0], [0; 5]);
+        self.timed(What::Time, side, [times, propositions, 0, 0])
+    }
+
+    /// The seconds that so many calls of starting take.
+    pub fn time_start(&mut self, side: Side, times: u32) -> f64 {
+        self.timed(What::TimeStart, side, [times, 0, 0, 0])
+    }
+
+    /// The seconds that so many calls of following this state, action and outcome take.
+    pub fn time_follow(&mut self, side: Side, times: u32, [state, action, outcome]: [u32; 3]) -> f64 {
+        self.timed(What::TimeFollow, side, [times, state, action, outcome])
+    }
+
+    fn timed(&mut self, what: What, side: Side, figures: [u32; 4]) -> f64 {
+        self.line(what, side, &[], figures, [0; 5]);
         let mut text = String::new();
         let answers = &mut self.caller.as_mut().expect("a caller").answers;
         self.to.flush().and_then(|()| answers.read_line(&mut text)).expect("the caller answers");

@@ -7,25 +7,26 @@ use mathlib.Core.Path.{_≡_, sym, ap, _∙_}
 use borrow.Author.Tests.{ne-eqb, lt-ltb, le-ltb}
 use lib.Dec.{ltb, eqb}
 use lib.ListN.{length}
-use Rattle.rules.specs.Job.{place, places, entry-number, entered}
+use Rattle.rules.specs.Job.{place, places, entry-number, entered, record-number}
 use Rattle.rules.specs.Fault.{only}
 use Rattle.rules.specs.Bytes.{refusal, said}
 use Rattle.rules.specs.Plan.{entry, room, shaped}
-use Rattle.rules.specs.Answers.{refusal-fault, advised-figures, ShapeOf}
-use Rattle.rules.specs.Calls.{refused-move, moved-to, started, is-place, followed, refused-advice, advice-of, advised}
+use Rattle.rules.specs.Answers.{MovedFigures, refusal-fault, advised-figures, ShapeOf}
+use Rattle.rules.specs.Calls.{refused-move, moved-by, moved-to, started, is-place, followed, refused-advice, advice-of, advised}
 use Rattle.rules.specs.declared.answer.Advised.{Advised}
 use Rattle.rules.specs.declared.answer.Refusal.{Refusal}
 use Rattle.rules.specs.declared.answer.Value.{Value}
 use Rattle.game.specs.declared.entry.Entry.{Entry}
 use Rattle.rules.specs.declared.entry.Shape.{Shape}
 use Rattle.rules.proofs.Kept.{kept}
+use Rattle.rules.proofs.Recorded.{match-iff, number-matches, matches-alone}
 use Rattle.job.specs.Found.{FoundOf}
 use Rattle.job.specs.Layout.{Fit}
 use Rattle.job.specs.Reading.{reading, reading-figures}
 use Rattle.job.specs.declared.ask.Found.{Found}
 use Rattle.job.specs.declared.layout.Layout.{Layout}
 use Rattle.job.specs.declared.layout.Reading.{Reading}
-use Rattle.job.proofs.Asking.{states-said, actions-said, goals-said, places-said, start-said, found-below}
+use Rattle.job.proofs.Asking.{states-said, actions-said, goals-said, records-said, places-said, start-said, found-below}
 use Rattle.job.proofs.Readings.{read-fit, read-refused, read-refused-some}
 
 -- ---- what reading answered, x, was matched
@@ -55,8 +56,8 @@ module _ {b : List ℕ} {l : Layout} (f : Fit b l) where
   sound : refusal b ≡ 0
   sound = kept b .1 (f .keeps)
 
-  pub start-fit : moved-to (entered (said b) (l .«first_goal») (l .first)) ≡ started b
-  start-fit = rw sound (ap moved-to (start-said f))
+  pub start-fit : {y : MovedFigures} → y ≡ moved-to (entered (said b) (l .«first_goal») (l .first)) → y ≡ started b
+  start-fit e = rw sound (e ∙ ap moved-to (start-said f))
 
   -- whether s, q is a place
   module _ (s q : ℕ) where
@@ -79,8 +80,16 @@ module _ {b : List ℕ} {l : Layout} (f : Fit b l) where
     follow-unknown p m h = let n = rw m at h in rw (sound, p, n)
 
     pub follow-moves : is-place (said b) s q ≡ true → {x : Found} {k : ℕ} → x ≡ Found.At k → FoundOf (said b) s a t x
-        → moved-to (entered (said b) q t) ≡ followed b s q a t
-    follow-moves p m h = let (y, l, r) = rw m at h in rw (sound, p, y)
+        → {y : MovedFigures} → y ≡ moved-by k (entered (said b) q t) → y ≡ followed b s q a t
+    follow-moves p {k = k} m h e =
+        let (y, l, r) = rw m at h in
+        let same : k ≡ record-number (said b) s a t =
+        matches-alone (f .keeps) (match-iff (said b) s a t k .0 (l, r)) (number-matches (said b) s a t y) in
+        rw (sound, p, y) (e ∙ ap (λ (n : ℕ). moved-by n (entered (said b) q t)) same)
+
+  -- the number of a record that was found is one of the job's
+  pub record-below : (s a t : ℕ) {x : Found} {k : ℕ} → x ≡ Found.At k → FoundOf (said b) s a t x → k < l .records
+  record-below s a t m h = let (y, i, r) = rw m at h in rw (records-said f) i
 
   -- the outcome of a record that was found is a state
   pub outcome-state : (s a t : ℕ) {x : Found} {k : ℕ} → x ≡ Found.At k → FoundOf (said b) s a t x → t < l .states

@@ -12,19 +12,19 @@ use Rattle.rules.specs.Job.{arena}
 use Rattle.rules.specs.Bytes.{said}
 use Rattle.rules.specs.Keeps.{Keeps}
 use Rattle.rules.specs.Answers.{MovedFigures}
-use Rattle.rules.specs.Calls.{moved-to, followed}
+use Rattle.rules.specs.Calls.{followed}
 use Rattle.rules.specs.declared.place.Place.{Place}
 use Rattle.game.proofs.Search.{clash}
 use Rattle.rules.proofs.Arenas.{arena-lawful}
 use Rattle.game.proofs.Following.{heed, heed-open, tight}
 use Rattle.cabinet.specs.Playing.{Caller, turn, turns, Stands, Met, AsListed}
 use Rattle.cabinet.proofs.Starting.{followed-listed}
-use Rattle.cabinet.proofs.Turns.{at, stands-inside, inside-stands, listed-taken, refused-ends}
+use Rattle.cabinet.proofs.Turns.{at, taken-to, stands-inside, inside-stands, listed-taken, refused-ends}
 
 -- what a caller has seen after h, where the game was played on as the play says
-abbrev shown : Play MovedFigures → Play Place → Play MovedFigures
-shown h (begin p) = h
-shown h (then k a t) = then (shown h k) a (moved-to t)
+abbrev shown : List ℕ → Play MovedFigures → Play Place → Play MovedFigures
+shown b h (begin p) = h
+shown b h (then k a t) = then (shown b h k) a (taken-to b (last (shown b h k)) a t)
 
 -- an action that leads somewhere, else none
 abbrev if-open : (ℕ → List Place) → Choice → Choice
@@ -74,8 +74,8 @@ module _ (b : List ℕ) (keeps : Keeps b) (c : Caller) (h : Play MovedFigures) w
   unfoldable pub way-of : Way (arena (said b))
   way-of =
       record {
-        choose = λ k. if-open (arena (said b) .leads (last k)) (c (shown h k));
-        legal = λ k a e. go (arena (said b) .leads (last k)) (c (shown h k)) a e;
+        choose = λ k. if-open (arena (said b) .leads (last k)) (c (shown b h k));
+        legal = λ k a e. go (arena (said b) .leads (last k)) (c (shown b h k)) a e;
       }
     where
       go : (f : ℕ → List Place) (d : Choice) (a : ℕ) → if-open f d ≡ act a → (t : Place) × List·Memᴰ t (f a)
@@ -86,14 +86,14 @@ module _ (b : List ℕ) (keeps : Keeps b) (c : Caller) (h : Play MovedFigures) w
   G = arena (said b)
 
   -- what keeps the goal unmet in the game keeps it unmet for the caller
-  spared : (n : ℕ) (k : Play Place) (o : ℕ → Place) → Stands b (last (shown h k)) → at (last (shown h k)) ≡ last k → Obeys G way-of o k
-      → ((m : ℕ) → m < n → Unmet G (last (run G way-of o k m))) → Spared b c (λ i. o i .state) (shown h k) n
+  spared : (n : ℕ) (k : Play Place) (o : ℕ → Place) → Stands b (last (shown b h k)) → at (last (shown b h k)) ≡ last k → Obeys G way-of o k
+      → ((m : ℕ) → m < n → Unmet G (last (run G way-of o k m))) → Spared b c (λ i. o i .state) (shown b h k) n
   unfolding way-of
-  spared zero k o s q y u = none-yet b c (λ i. o i .state) (shown h k)
-  spared (suc n) k o s q y u = go (c (shown h k)) refl (λ k. spared n k (λ i. o (suc i)))
+  spared zero k o s q y u = none-yet b c (λ i. o i .state) (shown b h k)
+  spared (suc n) k o s q y u = go (c (shown b h k)) refl (λ k. spared n k (λ i. o (suc i)))
     where
       H : Play MovedFigures
-      H = shown h k
+      H = shown b h k
 
       here : Unmet G (last k)
       here = u 0 (omega arith)
@@ -114,8 +114,8 @@ module _ (b : List ℕ) (keeps : Keeps b) (c : Caller) (h : Play MovedFigures) w
 
       Rest : Type 0
       Rest =
-          (k : Play Place) → Stands b (last (shown h k)) → at (last (shown h k)) ≡ last k → Obeys G way-of (λ i. o (suc i)) k
-          → ((m : ℕ) → m < n → Unmet G (last (run G way-of (λ i. o (suc i)) k m))) → Spared b c (λ i. o (suc i) .state) (shown h k) n
+          (k : Play Place) → Stands b (last (shown b h k)) → at (last (shown b h k)) ≡ last k → Obeys G way-of (λ i. o (suc i)) k
+          → ((m : ℕ) → m < n → Unmet G (last (run G way-of (λ i. o (suc i)) k m))) → Spared b c (λ i. o (suc i) .state) (shown b h k) n
 
       go : (d : Choice) → c H ≡ d → Rest → Spared b c (λ i. o i .state) H (suc n)
       go stop e rec =
@@ -142,7 +142,7 @@ module _ (b : List ℕ) (keeps : Keeps b) (c : Caller) (h : Play MovedFigures) w
               let l : Listed G (last k) a (o zero) = y zero a here acts in
               let on : advance G way-of k (o zero) ≡ then k a (o zero) = rw (here, acts) in
               let f = listed-taken b keeps s a (o zero) (subst (λ (p : Place). Listed G p a (o zero)) (sym q) l) in
-              let moves : turn b c H (o zero .state) ≡ then H a (moved-to (o zero)) = rw (open1, e, f) in
+              let moves : turn b c H (o zero .state) ≡ then H a (taken-to b (last H) a (o zero)) = rw (open1, e, f) in
               let i = subst (λ (p : Place). Inside G p) q (stands-inside b s) in
               one-more b c n (λ a′ t d x. let v : a′ ≡ a = cc in rw (v, f) refl) not-met moves
               (rec (then k a (o zero)) (inside-stands b (arena-lawful b keeps .closed (last k) (o zero) a i l)) refl

@@ -8,12 +8,12 @@ use borrow.Author.Tests.{eq-eqb, ne-eqb, lt-ltb, le-ltb}
 use lib.Dec.{ltb, eqb}
 use lib.ListN.{length}
 use Rattle.game.specs.Game.{Play, last, Inside, Way, run, Obeys, Follows, Right}
-use Rattle.rules.specs.Job.{place, places, entry-number, entered, start, recorded, arena}
+use Rattle.rules.specs.Job.{place, places, entry-number, entered, start, recorded, record-number, arena}
 use Rattle.rules.specs.Fault.{Fault, only}
 use Rattle.rules.specs.Bytes.{fault, refusal, said}
 use Rattle.rules.specs.Keeps.{Keeps}
 use Rattle.rules.specs.Plan.{entry, room, shaped}
-use Rattle.rules.specs.Calls.{Planning, refused, no-room, overrun, planned, refused-move, moved-to, started, is-place, followed}
+use Rattle.rules.specs.Calls.{Planning, refused, no-room, overrun, planned, refused-move, moved-by, moved-to, started, is-place, followed}
 use Rattle.rules.specs.Calls.{refused-advice, advice-of, advised}
 use Rattle.rules.specs.Answers as answers
 use Rattle.game.specs.Demands.{ValueTold, WinningKept, PendingKept}
@@ -72,7 +72,7 @@ started-clear b =
 pub followed-clear : (b : List ℕ) (s q a t : ℕ) → MovedClear (followed b s q a t)
 followed-clear b s q a t =
     let j = said b in
-    let to = moved-to (entered j q t) in
+    let to = moved-by (record-number j s a t) (entered j q t) in
     let known = cond (not (recorded j s a t)) (refused-move (only 11)) to in
     past-move (not (eqb (refusal b) 0)) (fault b) (cond (not (is-place j s q)) (refused-move (only 9)) known) (told b .no-record)
     (past-move (not (is-place j s q)) (only 9) known (λ x y. refl)

@@ -1,6 +1,7 @@
 -- The laws that belong to no one function.
 pub mod Answering
 pub mod Starting
+pub mod Naming
 pub mod Unique
 pub mod Demands
 pub mod Turns

@@ -12,7 +12,7 @@ use Rattle.rules.specs.Bytes.{said}
 use Rattle.rules.specs.Keeps.{Keeps}
 use Rattle.rules.specs.Fault.{only}
 use Rattle.rules.specs.Answers.{MovedFigures}
-use Rattle.rules.specs.Calls.{Planning, moved-to, followed, advice-of}
+use Rattle.rules.specs.Calls.{Planning, followed, advice-of}
 use Rattle.rules.specs.declared.place.Place.{Place}
 use Rattle.game.specs.declared.entry.Entry.{Entry}
 use Rattle.game.proofs.Search.{least-unique}
@@ -25,8 +25,8 @@ use Rattle.rules.proofs.Planned.{entry-of, planned-exactly, planned-right}
 use Rattle.cabinet.specs.Playing.{Caller, turn, turns, told, heeds, Stands, AsListed, Allows}
 use Rattle.cabinet.proofs.Advising.{advice-planned}
 use Rattle.cabinet.proofs.Starting.{followed-listed}
-use Rattle.cabinet.proofs.Turns.{at, first, stands-inside, inside-stands, followed-stands, listed-taken, answered-before, turns-go}
-use Rattle.cabinet.proofs.Turns.{allowed-answered}
+use Rattle.cabinet.proofs.Turns.{at, first, taken-to, stands-inside, inside-stands, followed-stands, listed-taken, answered-before}
+use Rattle.cabinet.proofs.Turns.{turns-go, allowed-answered}
 
 module _ {b before after : List ℕ} (done : Planning b before (only 0) after) where
   pub keeps : Keeps b
@@ -153,13 +153,13 @@ module _ {b before after : List ℕ} (done : Planning b before (only 0) after) w
       let pend = pending-at G L p i n (hopes-iff G L (suc n) p i .0 w) in
       let (t, m, near) = hopes-says G L p (suc n) (entry-right h s) pend w .1 in
       let j = L .closed p t a i m in
-      let x : turn b heeding h (t .state) ≡ then h a (moved-to t) =
+      let x : turn b heeding h (t .state) ≡ then h a (taken-to b (last h) a t) =
       rw (eq-eqb (last h .refusal) 0 (s .answered), told-entry h s, open-named G L few (t, m), listed-taken b keeps s a t m) in
-      one-more n h a (t .state) (moved-to t) x (go a t j near (λ w. reaches n (then h a (moved-to t)) (inside-stands b j) w))
+      one-more n h a (t .state) (taken-to b (last h) a t) x (go a t j near (λ w. reaches n (then h a (taken-to b (last h) a t)) (inside-stands b j) w))
     where
       go : (a : ℕ) (t : Place) → Inside G t
           → ((suc n ≡ 1) × Winning G t) ⊎ ((k : ℕ) × (suc n ≡ suc k) × Pending G t × HopesIn G t k)
-          → (HopesIn G t n → Reached (then h a (moved-to t)) n) → Reached (then h a (moved-to t)) n
+          → (HopesIn G t n → Reached (then h a (taken-to b (last h) a t)) n) → Reached (then h a (taken-to b (last h) a t)) n
       go a t j (inl (q, v)) rec =
           let z : n ≡ 0 = omega arith in
           rw z (record { outcomes = λ i. 0; stands = inside-stands b j; winning = v; moved = omega arith })

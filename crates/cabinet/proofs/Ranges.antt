@@ -1,5 +1,5 @@
 -- What each of the calls for C gives: 0 where it succeeds, the numbers that documents 01 and 02 name for it, and no other; 12 and 13 alone
--- name a record.
+-- name a record, save that following names one where it succeeds.
 use Prim.Native.Nat.{ℕ}
 use mathlib.Core.Bool.{Bool, true, false, cond, not}
 use mathlib.Core.List.{List, [], _∷_, map}
@@ -8,11 +8,11 @@ use mathlib.Core.Path.{_≡_, refl, sym, subst}
 use native.Mathlib.Omega.{arith}
 use lib.Dec.{ltb, eqb}
 use lib.ListN.{length, set, replicate}
-use Rattle.rules.specs.Job.{place, places, entry-number, entered, start, recorded}
+use Rattle.rules.specs.Job.{place, places, entry-number, entered, start, recorded, record-number}
 use Rattle.rules.specs.Fault.{Fault, only, with-record}
 use Rattle.rules.specs.Bytes.{fault, refusal, said}
 use Rattle.rules.specs.Plan.{entry, room, shaped}
-use Rattle.rules.specs.Calls.{Planning, refused, no-room, overrun, planned, refused-move, moved-to, started, is-place, followed}
+use Rattle.rules.specs.Calls.{Planning, refused, no-room, overrun, planned, refused-move, moved-by, moved-to, started, is-place, followed}
 use Rattle.rules.specs.Calls.{refused-advice, advice-of, advised}
 use Rattle.rules.specs.Answers as answers
 use Rattle.rules.specs.Answers.{moved-fault, advised-fault}
@@ -60,8 +60,8 @@ plan-range r p = go p
     go (planned e l n p) = alone 0 (inl of-success)
 
 -- a test that refuses by f, and else the answer y
-past-move : (P : ℕ → Type 0) (x : Bool) (f : Fault) (y : answers.MovedFigures) → Told P f → Told P (moved-fault y)
-    → Told P (moved-fault (cond x (refused-move f) y))
+past-move : (P : answers.MovedFigures → Type 0) (x : Bool) (f : Fault) (y : answers.MovedFigures) → P (refused-move f) → P y
+    → P (cond x (refused-move f) y)
 past-move P true f y h k = h
 past-move P false f y h k = k
 
@@ -72,20 +72,24 @@ past-advice P false f y h k = k
 
 pub start-range : (b : List ℕ) (r : MovedFigures) → figures-moved r ≡ started b → Told OfJob (moved-fault (figures-moved r))
 start-range b r e =
-    subst (λ (f : answers.MovedFigures). Told OfJob (moved-fault f)) (sym e)
-    (past-move OfJob (not (eqb (refusal b) 0)) (fault b) (moved-to (start (said b))) (told b) (alone 0 of-success))
+    let Gives : answers.MovedFigures → Type 0 = λ f. Told OfJob (moved-fault f) in
+    subst Gives (sym e) (past-move Gives (not (eqb (refusal b) 0)) (fault b) (moved-to (start (said b))) (told b) (alone 0 of-success))
 
+-- following succeeds, with the record that `follow-names` says, or is refused
 pub follow-range : (b : List ℕ) (s q a t : ℕ) (r : MovedFigures) → figures-moved r ≡ followed b s q a t
-    → Told OfFollowing (moved-fault (figures-moved r))
+    → (r .refusal ≡ 0) ⊎ Told OfFollowing (moved-fault (figures-moved r))
 follow-range b s q a t r e =
     let j = said b in
-    let to = moved-to (entered j q t) in
+    let to = moved-by (record-number j s a t) (entered j q t) in
     let known = cond (not (recorded j s a t)) (refused-move (only 11)) to in
-    subst (λ (f : answers.MovedFigures). Told OfFollowing (moved-fault f)) (sym e)
-    (past-move OfFollowing (not (eqb (refusal b) 0)) (fault b) (cond (not (is-place j s q)) (refused-move (only 9)) known)
-    (of-bytes b (λ n h. inl h))
-    (past-move OfFollowing (not (is-place j s q)) (only 9) known (alone 9 (inr (inl refl)))
-    (past-move OfFollowing (not (recorded j s a t)) (only 11) to (alone 11 (inr (inr refl))) (alone 0 (inl of-success)))))
+    subst Gives (sym e)
+    (past-move Gives (not (eqb (refusal b) 0)) (fault b) (cond (not (is-place j s q)) (refused-move (only 9)) known)
+    (inr (of-bytes b (λ n h. inl h)))
+    (past-move Gives (not (is-place j s q)) (only 9) known (inr (alone 9 (inr (inl refl))))
+    (past-move Gives (not (recorded j s a t)) (only 11) to (inr (alone 11 (inr (inr refl)))) (inl refl))))
+  where
+    Gives : answers.MovedFigures → Type 0
+    Gives f = (f .refusal ≡ 0) ⊎ Told OfFollowing (moved-fault f)
 
 pub advice-range : (b p : List ℕ) (s q : ℕ) (r : AdvisedFigures) → figures-advised r ≡ advised b p s q
     → Told OfAdvice (advised-fault (figures-advised r))
@@ -127,9 +131,10 @@ pub start-given : map (λ (b : List ℕ). moved-fault (started b)) jobs ≡ of-j
 start-given = refl
 
 pub follow-given : (map (λ (b : List ℕ). moved-fault (followed b 0 0 0 1)) jobs ≡ of-job)
+    × (moved-fault (followed plate 1 0 1 2) ≡ with-record 0 3)
     × (moved-fault (followed plate 4 0 0 1) ≡ only 9)
     × (moved-fault (followed plate 0 0 0 2) ≡ only 11)
-follow-given = (refl, refl, refl)
+follow-given = (refl, refl, refl, refl)
 
 -- a plan whose first entry is the one of a losing place, and every other byte 0
 abbrev scribbled : List ℕ

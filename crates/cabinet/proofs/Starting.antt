@@ -9,13 +9,13 @@ use native.Mathlib.Omega.{arith}
 use borrow.Author.Tests.{eq-eqb, eqb-true, eqb-false, not-false, not-true}
 use lib.Dec.{eqb}
 use Rattle.game.specs.Game.{Inside, Listed}
-use Rattle.rules.specs.Job.{Job, place, entered, start, recorded, arena}
+use Rattle.rules.specs.Job.{Job, place, entered, start, recorded, record-number, arena}
 use Rattle.rules.specs.Fault.{Fault, only}
 use Rattle.rules.specs.Bytes.{fault, refusal, said}
 use Rattle.rules.specs.Keeps.{Keeps}
 use Rattle.rules.specs.Answers.{MovedFigures}
 use Rattle.rules.specs.declared.place.Place.{Place}
-use Rattle.rules.specs.Calls.{refused-move, moved-to, started, is-place, followed}
+use Rattle.rules.specs.Calls.{refused-move, moved-by, moved-to, started, is-place, followed}
 use Rattle.game.proofs.Tests.{and-iff, ltb-iff}
 use Rattle.rules.proofs.Kept.{kept}
 use Rattle.rules.proofs.Arenas.{inside-iff, is-record-iff, recorded-iff, leads-iff, entered-inside, start-inside}
@@ -48,11 +48,12 @@ started-inside b = judged (Lands (said b)) b (moved-to (start (said b))) (λ k e
 module _ (b : List ℕ) (s q a t : ℕ) where
   -- what holds of the place entered by a record that is there holds of every move that is followed
   pub followed-when : (P : MovedFigures → Type 0)
-      → (Keeps b → is-place (said b) s q ≡ true → recorded (said b) s a t ≡ true → P (moved-to (entered (said b) q t)))
+      → (Keeps b → is-place (said b) s q ≡ true → recorded (said b) s a t ≡ true
+      → P (moved-by (record-number (said b) s a t) (entered (said b) q t)))
       → When P (followed b s q a t)
   followed-when P holds =
       let j = said b in
-      let to = moved-to (entered j q t) in
+      let to = moved-by (record-number j s a t) (entered j q t) in
       let known = cond (not (recorded j s a t)) (refused-move (only 11)) to in
       judged P b (cond (not (is-place j s q)) (refused-move (only 9)) known)
       (λ k. past P (not (is-place j s q)) (only 9) known (λ _. omega arith)
@@ -78,12 +79,12 @@ module _ (b : List ℕ) (s q a t : ℕ) where
 
   -- a record that is there can be followed
   pub recorded-followed : Keeps b → is-place (said b) s q ≡ true → recorded (said b) s a t ≡ true
-      → followed b s q a t ≡ moved-to (entered (said b) q t)
+      → followed b s q a t ≡ moved-by (record-number (said b) s a t) (entered (said b) q t)
   recorded-followed k p r = rw (eq-eqb (refusal b) 0 (kept b .1 k), p, r)
 
 -- and every move of the game from a place is one that can be followed
 pub listed-followed : (b : List ℕ) (s q a : ℕ) (p : Place) → Keeps b → Inside (arena (said b)) (place s q)
-    → Listed (arena (said b)) (place s q) a p → followed b s q a (p .state) ≡ moved-to p
+    → Listed (arena (said b)) (place s q) a p → followed b s q a (p .state) ≡ moved-by (record-number (said b) s a (p .state)) p
 listed-followed b s q a p k i m =
     let j = said b in
     let (n, l, from, to) = leads-iff j (place s q) p a .0 m in

@@ -8,12 +8,12 @@ use native.Mathlib.Omega.{arith}
 use borrow.Author.Tests.{eq-eqb, ne-eqb, eqb-true, eqb-false}
 use lib.Dec.{eqb}
 use Rattle.game.specs.Game.{Play, then, last, made, Choice, stop, act, Inside, Listed}
-use Rattle.rules.specs.Job.{place, recorded, arena}
+use Rattle.rules.specs.Job.{place, recorded, record-number, arena}
 use Rattle.rules.specs.Bytes.{refusal, said}
 use Rattle.rules.specs.Keeps.{Keeps}
 use Rattle.game.specs.Visits.{Goes, so-far, further}
 use Rattle.rules.specs.Answers.{MovedFigures}
-use Rattle.rules.specs.Calls.{moved-to, is-place, followed}
+use Rattle.rules.specs.Calls.{moved-by, is-place, followed}
 use Rattle.rules.specs.declared.place.Place.{Place}
 use Rattle.game.proofs.Tests.{and-iff, ltb-iff}
 use Rattle.rules.proofs.Kept.{kept}
@@ -47,17 +47,21 @@ module _ (b : List ℕ) where
   pub stands-inside : {f : MovedFigures} → Stands b f → Inside (arena (said b)) (at f)
   stands-inside {f} s = is-place-iff (at f) .0 (s .on-place)
 
-  pub inside-stands : {p : Place} → Inside (arena (said b)) p → Stands b (moved-to p)
-  inside-stands {p} i = record { answered = refl; on-place = is-place-iff p .1 i }
+  pub inside-stands : {k : ℕ} {p : Place} → Inside (arena (said b)) p → Stands b (moved-by k p)
+  inside-stands {p = p} i = record { answered = refl; on-place = is-place-iff p .1 i }
 
   -- the answer to a move that following takes stands on a place
   pub followed-stands : (s q a t : ℕ) → followed b s q a t .refusal ≡ 0 → Stands b (followed b s q a t)
   followed-stands s q a t e =
       record { answered = e; on-place = is-place-iff (at (followed b s q a t)) .1 (followed-inside b s q a t e) }
 
+  -- what following answers from f of a move of the game by a to t
+  abbrev pub taken-to : MovedFigures → ℕ → Place → MovedFigures
+  taken-to f a t = moved-by (record-number (said b) (f .state) a (t .state)) t
+
   -- every move of the game is one that following takes, with the state entered as its outcome
   pub listed-taken : Keeps b → {f : MovedFigures} → Stands b f → (a : ℕ) (t : Place) → Listed (arena (said b)) (at f) a t
-      → followed b (f .state) (f .goal) a (t .state) ≡ moved-to t
+      → followed b (f .state) (f .goal) a (t .state) ≡ taken-to f a t
   listed-taken keeps {f} s a t m = listed-followed b (f .state) (f .goal) a t keeps (stands-inside s) m
 
   -- from a place a move is followed, or refused by 11

@@ -26,10 +26,10 @@ figures-advised-known =
     (λ f. refl)
 
 abbrev moved-of : answers.MovedFigures → Moved
-moved-of f = by-refusal (f .refusal) (f .«record») (Moved.To (record { state = f .state; goal = f .goal })) Moved.Refused
+moved-of f = by-refusal (f .refusal) (f .«record») (Moved.To (record { state = f .state; goal = f .goal }) (f .«record»)) Moved.Refused
 
 moved-back : (r : Moved) → moved-of (moved-figures r) ≡ r
-moved-back (Moved.To p) = refl
+moved-back (Moved.To p k) = refl
 moved-back (Moved.Refused r) = by-refusal-back r _ Moved.Refused
 
 pub moved-known : (r s : Moved) → moved-figures r ≡ moved-figures s → r ≡ s

@@ -11,7 +11,7 @@ abbrev pub figures-planned : PlannedFigures → Fault
 figures-planned f = with-record (f .refusal) (f .«record»)
 
 abbrev pub moved-figures : Moved → answers.MovedFigures
-moved-figures (Moved.To p) = record { refusal = 0; state = p .state; goal = p .goal; «record» = 0 }
+moved-figures (Moved.To p k) = record { refusal = 0; state = p .state; goal = p .goal; «record» = k }
 moved-figures (Moved.Refused r) = record { refusal = refusal-fault r .number; state = 0; goal = 0; «record» = refusal-fault r .«record» }
 
 abbrev pub figures-moved : MovedFigures → answers.MovedFigures

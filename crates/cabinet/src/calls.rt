@@ -1,5 +1,5 @@
 // The calls for C, on job bytes, plan bytes and place numbers. Each answers one struct of figures: the refusal first, 0 on success,
-// and on a refusal every other figure 0, save that 12 and 13 name the bad record.
+// and on a refusal every other figure 0, save that 12 and 13 name the bad record. Where following succeeds, the record is the one followed.
 ghost use mathlib.Core.Path.{_≡_};
 ghost use Rattle.rules.specs.Calls.{Planning, started, followed, advised};
 ghost use Rattle.rules.specs.Answers.{advised-figures};
@@ -43,11 +43,11 @@ fn of_moved(r: Moved) -> MovedFigures
             goal: 0,
             record: why.record(),
         },
-        Moved::To(p) => MovedFigures {
+        Moved::To { place, record } => MovedFigures {
             refusal: 0,
-            state: p.state,
-            goal: p.goal,
-            record: 0,
+            state: place.state,
+            goal: place.goal,
+            record,
         },
     }
 }

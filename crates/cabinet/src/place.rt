@@ -4,7 +4,7 @@ ghost use Rattle.rules.specs.Answers.{advised-figures};
 ghost use Prim.Native.Nat.{_<_};
 ghost use Rattle.rules.specs.Job.{entered};
 ghost use Rattle.rules.specs.Bytes.{said};
-ghost use Rattle.rules.specs.Calls.{moved-to, started, followed, advised};
+ghost use Rattle.rules.specs.Calls.{moved-by, started, followed, advised};
 ghost use Rattle.job.specs.Layout.{Fit};
 ghost use Rattle.cabinet.specs.Figures.{moved-figures};
 use job::ask::Found;
@@ -20,24 +20,27 @@ pub struct Place {
     pub goal: u32,
 }
 
-// What starting and following answer: the place moved, or why not.
+// What starting and following answer: the place moved, with the number of the record that was followed (starting has 0), or why not.
 pub enum Moved {
-    To(Place),
+    To { place: Place, record: u32 },
     Refused(Refusal),
 }
 
-// The place entered with state t from goal state q.
-fn enter(job: &[u8], l: Layout, q: usize, t: usize) -> Moved
+// The place entered with state t from goal state q, by this record.
+fn enter(job: &[u8], l: Layout, q: usize, t: usize, record: u32) -> Moved
     requires { ⌜ Fit (now job) l ⌝ }
     requires { ⌜ q < l .goals ⌝ }
     requires { ⌜ t < l .states ⌝ }
-    ensures { λ r. ⌜ moved-figures r ≡ moved-to (entered (said (now (job .entry))) q t) ⌝ }
+    ensures { λ r. ⌜ moved-figures r ≡ moved-by «record» (entered (said (now (job .entry))) q t) ⌝ }
 {
     let p = job::ask::place_entered(job, l, q, t);
-    Moved::To(Place {
-        state: p.state as u32,
-        goal: p.goal as u32,
-    })
+    Moved::To {
+        place: Place {
+            state: p.state as u32,
+            goal: p.goal as u32,
+        },
+        record,
+    }
 }
 
 impl Place {
@@ -47,7 +50,7 @@ impl Place {
     {
         match job::accept::read(job) {
             Reading::Refused(r) => Moved::Refused(r),
-            Reading::Job(l) => enter(job, l, l.first_goal, l.first),
+            Reading::Job(l) => enter(job, l, l.first_goal, l.first, 0),
         }
     }
 
@@ -76,7 +79,7 @@ impl Place {
         let t = outcome as usize;
         match job::ask::find(job, l, s, action as usize, t) {
             Found::Nothing => Moved::Refused(Refusal::Outcome),
-            Found::At(_) => enter(job, l, q, t),
+            Found::At(k) => enter(job, l, q, t, k as u32),
         }
     }
 

@@ -1,15 +1,15 @@
 -- Laws of the tests: what a test that passes says, for `&&`, `||`, the order of numbers, and the tests over all numbers below one.
 use Prim.Native.Nat.{ℕ, zero, suc, _+_, _≤_, _<_}
-use mathlib.Core.Bool.{Bool, true, false, _&&_, _||_, false≢true}
+use mathlib.Core.Bool.{Bool, true, false, _&&_, _||_, false≢true, or-false}
 use mathlib.Core.Logic.{_⊎_, inl, inr, ⊎-elim, _↔_, Iff·rfl, Iff·trans}
-use mathlib.Core.Path.{_≡_, refl, sym, ap₂}
+use mathlib.Core.Path.{_≡_, refl, sym, ap₂, _∙_}
 use native.Mathlib.Nat.{eq-or-lt-of-le, le-of-suc-le-suc}
 use native.Mathlib.Numerals.{add-one}
 use native.Mathlib.Omega.{arith}
 use borrow.Author.Tests.{ltb-true, lt-ltb, leb-true, le-leb, eqb-true, eq-eqb}
 use lib.Dec.{leb, ltb, eqb}
 use Rattle.game.specs.Game.{Least}
-use Rattle.game.specs.Below.{every-below, some-below}
+use Rattle.game.specs.Below.{every-below, some-below, last-below}
 use Rattle.game.proofs.Search.{clash, if-not-true, lowest, lowest-at}
 
 -- ---- two tests
@@ -81,6 +81,16 @@ some-stops f n k h e = some-iff f (λ i. Iff·rfl) n .1 (k, h, e)
 -- where some number below n passes, one does, and the search stops at the lowest
 pub some-met : (f : ℕ → Bool) (n : ℕ) → some-below n f ≡ true → (k : ℕ) × (k < n) × (f k ≡ true)
 some-met f n = some-iff f (λ k. Iff·rfl) n .0
+
+-- and so does the last one
+pub last-met : (f : ℕ → Bool) (n : ℕ) → some-below n f ≡ true → (last-below n f < n) × (f (last-below n f) ≡ true)
+last-met f zero e = absurd (false≢true e)
+last-met f (suc n) e = go (f n) refl (last-met f n)
+  where
+    go : (x : Bool) → f n ≡ x → (some-below n f ≡ true → (last-below n f < n) × (f (last-below n f) ≡ true))
+        → (last-below (suc n) f < suc n) × (f (last-below (suc n) f) ≡ true)
+    go true z rec = rw z (omega arith, z)
+    go false z rec = let (h, p) = rec (sym (or-false (some-below n f)) ∙ rw z at e) in rw z (omega arith, p)
 
 pub lowest-found : (f : ℕ → Bool) (n : ℕ) → some-below n f ≡ true → (lowest f n < n) × Least (λ i. f i ≡ true) (lowest f n)
 lowest-found f n e = let t = some-met f n e in lowest-at f n (t .0) (t .1) (t .2)

@@ -12,9 +12,9 @@ use Rattle.rules.specs.Bytes.{said, before}
 use Rattle.rules.specs.Keeps.{Keeps, Before}
 use Rattle.rules.specs.declared.place.Move.{Move}
 use Rattle.game.proofs.Search.{clash, if-not-true}
-use Rattle.rules.proofs.Arenas.{is-from-iff, is-record-iff, recorded-iff}
+use Rattle.rules.proofs.Arenas.{recorded-iff}
 use Rattle.rules.proofs.Order.{before-iff, before-trans, before-differ}
-use Rattle.rules.proofs.Kept.{distinct}
+use Rattle.rules.proofs.Recorded.{fields-iff, match-iff, matches-alone}
 use Rattle.job.specs.Found.{FoundOf, triple, Parted}
 use Rattle.job.specs.declared.ask.Found.{Found}
 
@@ -54,10 +54,7 @@ module _ {b : List ℕ} (keeps : Keeps b) {m : Move} where
 -- ---- nothing is in doubt any more: k records come before state s, action a and outcome t
 
 is-triple : (m : Move) (s a t : ℕ) → is-record m s a t ≡ true → m ≡ triple s a t
-is-triple m s a t e =
-    let (from, to) = is-record-iff m s a t .0 e in
-    let (state, action) = is-from-iff m s a .0 from in
-    λ i. triple (state i) (action i) (to i)
+is-triple m s a t e = let (state, action, to) = fields-iff m s a t .0 e in λ i. triple (state i) (action i) (to i)
 
 module _ {b : List ℕ} (keeps : Keeps b) (s a t : ℕ) {k : ℕ} (p : Parted (said b) (triple s a t) k k) where
   -- a record that has them is record k
@@ -81,9 +78,7 @@ module _ {b : List ℕ} (keeps : Keeps b) (s a t : ℕ) {k : ℕ} (p : Parted (s
 
 pub found-unique : {b : List ℕ} → Keeps b → (s a t : ℕ) (x y : Found) → FoundOf (said b) s a t x → FoundOf (said b) s a t y → x ≡ y
 found-unique {b} k s a t (Found.At i) (Found.At m) (p, h, e) (q, g, d) =
-    let same = is-triple (said b .move i) s a t e ∙ sym (is-triple (said b .move m) s a t d) in
-    ap Found.At
-    (distinct k i m h g (ap (λ (x : Move). x .state) same) (ap (λ (x : Move). x .action) same) (ap (λ (x : Move). x .outcome) same))
+    ap Found.At (matches-alone k (match-iff (said b) s a t i .0 (h, e)) (match-iff (said b) s a t m .0 (g, d)))
 found-unique k s a t (Found.At i) Found.Nothing (p, h, e) n = absurd (true≢false (sym p ∙ n))
 found-unique k s a t Found.Nothing (Found.At m) n (q, g, d) = absurd (true≢false (sym q ∙ n))
 found-unique k s a t Found.Nothing Found.Nothing n n′ = refl

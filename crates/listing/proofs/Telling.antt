@@ -49,10 +49,10 @@ unfolding moved-line
 moved-refused b p r = refused-line r _
 
 -- where starting is not refused, advice answers of the starting place
-pub moved-says : (b p : List ℕ) (x : Place)
-    → moved-line b p (moved-figures (Moved.To x)) ≡ value-line (x .state) (x .goal) (advised b p (x .state) (x .goal))
+pub moved-says : (b p : List ℕ) (x : Place) (k : ℕ)
+    → moved-line b p (moved-figures (Moved.To x k)) ≡ value-line (x .state) (x .goal) (advised b p (x .state) (x .goal))
 unfolding moved-line
-moved-says b p x = refl
+moved-says b p x k = refl
 
 -- ---- the numbers below n in order
 

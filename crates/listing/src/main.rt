@@ -39,7 +39,7 @@ fn list_start(out: &mut [u8], at: usize, job: &[u8], plan: &[u8]) -> usize
 {
     match (Place { state: 0, goal: 0 }).start(job) {
         Moved::Refused(why) => text::put_refusal(out, at, why),
-        Moved::To(p) => list_first(out, at, job, plan, p),
+        Moved::To { place, record: _ } => list_first(out, at, job, plan, place),
     }
 }
 

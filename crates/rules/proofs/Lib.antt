@@ -7,6 +7,7 @@ pub mod Numbers
 pub mod Kept
 pub mod Labels
 pub mod Arenas
+pub mod Recorded
 pub mod Traces
 pub mod Decided
 pub mod Figures

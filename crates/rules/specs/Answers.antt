@@ -34,7 +34,8 @@ value-number Value.Losing = 0
 value-number Value.Pending = 1
 value-number Value.Winning = 2
 
--- The figures that a call returns. Success is 0; a refusal returns its number and its record, and every other figure is 0.
+-- The figures that a call returns. Success is 0; a refusal returns its number and its record, and every other figure is 0. On success the
+-- record of a move is the one that was followed.
 pub record MovedFigures : Type 0 where
   pub refusal : ℕ
   pub state : ℕ

@@ -7,7 +7,7 @@ use mathlib.Core.Path.{_≡_}
 use lib.Dec.{ltb, eqb}
 use lib.ListN.{length, drop, replicate}
 use Rattle.game.specs.Game.{Inside, WinsIn, HopesIn, Pending}
-use Rattle.rules.specs.Job.{Job, place, places, entry-number, entered, start, recorded, arena}
+use Rattle.rules.specs.Job.{Job, place, places, entry-number, entered, start, recorded, record-number, arena}
 use Rattle.rules.specs.Fault.{Fault, only}
 use Rattle.rules.specs.Bytes.{fault, refusal, said}
 use Rattle.rules.specs.Plan.{entry, room, Plan, shaped}
@@ -36,8 +36,12 @@ pub data Planning (b before : List ℕ) : Fault → List ℕ → Type 0 where
 abbrev pub refused-move : Fault → MovedFigures
 refused-move f = record { refusal = f .number; state = 0; goal = 0; «record» = f .«record» }
 
+-- a place that record k led to; and one that none did, whose record is 0
+abbrev pub moved-by : ℕ → Place → MovedFigures
+moved-by k p = record { refusal = 0; state = p .state; goal = p .goal; «record» = k }
+
 abbrev pub moved-to : Place → MovedFigures
-moved-to p = record { refusal = 0; state = p .state; goal = p .goal; «record» = 0 }
+moved-to p = moved-by 0 p
 
 -- what starting answers
 abbrev pub started : List ℕ → MovedFigures
@@ -46,13 +50,13 @@ started b = cond (not (eqb (refusal b) 0)) (refused-move (fault b)) (moved-to (s
 abbrev pub is-place : Job → ℕ → ℕ → Bool
 is-place j s q = ltb s (j .states) && ltb q (j .goals)
 
--- what following answers, at state s and goal state q, of action a and outcome t
+-- what following answers, at state s and goal state q, of action a and outcome t: the place entered, with the record that has them
 abbrev pub followed : List ℕ → ℕ → ℕ → ℕ → ℕ → MovedFigures
 followed b s q a t =
     cond (not (eqb (refusal b) 0)) (refused-move (fault b))
     (cond (not (is-place (said b) s q)) (refused-move (only 9))
     (cond (not (recorded (said b) s a t)) (refused-move (only 11))
-    (moved-to (entered (said b) q t))))
+    (moved-by (record-number (said b) s a t) (entered (said b) q t))))
 
 -- ---- advice
 

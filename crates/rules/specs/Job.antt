@@ -3,7 +3,7 @@ use Prim.Native.Nat.{ℕ, zero, suc, _+_, _*_}
 use mathlib.Core.Bool.{Bool, cond, not, _&&_}
 use mathlib.Core.List.{List, [], _∷_, _++_, map}
 use lib.Dec.{eqb}
-use Rattle.game.specs.Below.{upto, each, some-below}
+use Rattle.game.specs.Below.{upto, each, some-below, last-below}
 use Rattle.game.specs.Game.{Arena}
 use Rattle.rules.specs.declared.place.Place.{Place}
 use Rattle.rules.specs.declared.place.Move.{Move}
@@ -53,6 +53,10 @@ module _ (j : Job) where
   -- some record has this state, action and outcome
   abbrev pub recorded : ℕ → ℕ → ℕ → Bool
   recorded s a t = some-below (j .records) (λ k. is-record (j .move k) s a t)
+
+  -- the number of that record, counted from 0, where there is one; where records ascend there is no second
+  abbrev pub record-number : ℕ → ℕ → ℕ → ℕ
+  record-number s a t = last-below (j .records) (λ k. is-record (j .move k) s a t)
 
   abbrev pub places : ℕ
   places = j .states * j .goals

@@ -1,4 +1,4 @@
-//! Times the library beside the same method in plain Rust and beside the oracle, in one run.
+//! Times the library's planning beside the same method in plain Rust and beside the oracle, in one run; and its other calls alone.
 
 mod plain;
 mod table;
@@ -106,6 +106,29 @@ pub fn bench(date: &str) {
         "The longest Goal body from slips, three clauses over six propositions, is written in {}.",
         table::unit(longest_goal(cases))
     );
+    println!();
+    let [start, first, middle, last] = moving(cases, &make::longest(SEED)).map(table::unit);
+    println!(
+        "On the longest job starting takes {start}, which is reading it and no search; following takes {first} by its"
+    );
+    println!("first record, {middle} by the one in its middle and {last} by its last.");
+}
+
+/// The seconds for one call of starting, and of following the first record, the one in the middle and the last.
+fn moving(cases: &mut Cases, job: &[u8]) -> [f64; 4] {
+    const CALLS: u32 = 1_000;
+    cases.input(0, Side::End, job);
+    let moves = Oracle::new(job).job.expect("a good job").moves;
+    let records = [0, moves.len() / 2, moves.len() - 1].map(|record| &moves[record]);
+    let records = records.map(|one| [one.state, one.action, one.outcome].map(|field| field as u32));
+    let mut times = [(); 4].map(|()| Vec::new());
+    for _ in 0..REPEATS {
+        times[0].push(cases.time_start(Side::End, CALLS));
+        for (index, record) in records.into_iter().enumerate() {
+            times[index + 1].push(cases.time_follow(Side::End, CALLS, record));
+        }
+    }
+    times.map(|times| median(times) / f64::from(CALLS))
 }
 
 /// The seconds for one call that writes the longest Goal body.

@@ -12,6 +12,7 @@ impl Trial<'_> {
         self.call(Call::Start { side: self.side }, due);
         self.play([state, goal]);
         self.play_from_anywhere();
+        self.follow_ends();
         for _ in 0..8 {
             self.follow_odd();
         }
@@ -20,6 +21,7 @@ impl Trial<'_> {
     fn follow(&mut self, [state, goal]: [u32; 2], action: u32, outcome: u32) -> Answer {
         let due = self.oracle.follow([state, goal], action, outcome);
         self.call(Call::Follow { state, goal, action, outcome, side: self.side }, due);
+        self.tally.followed(due);
         due
     }
 
@@ -43,6 +45,16 @@ impl Trial<'_> {
         if let Ok(job) = &self.oracle.job {
             let place = [self.random.below(job.states) as u32, self.random.below(job.goals) as u32];
             self.play(place);
+        }
+    }
+
+    /// The first record and the last, from any goal state.
+    fn follow_ends(&mut self) {
+        let oracle = self.oracle;
+        let Ok(job) = &oracle.job else { return };
+        for one in job.moves.first().into_iter().chain(job.moves.last()) {
+            let goal = self.random.below(job.goals);
+            self.follow([one.state as u32, goal as u32], one.action as u32, one.outcome as u32);
         }
     }
 

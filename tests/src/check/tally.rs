@@ -1,6 +1,6 @@
 //! Counts what a run has tried, so that its end can say how much was covered.
 
-use crate::oracle::{Oracle, Refused, FIELD, ORDER, WINNING};
+use crate::oracle::{Answer, Oracle, Refused, FIELD, ORDER, WINNING};
 use std::collections::{BTreeMap, BTreeSet};
 
 #[derive(Default)]
@@ -21,6 +21,8 @@ pub struct Tally {
     pub brute: u64,
     /// The bad records that were named, with the number that named them.
     records: BTreeSet<(u32, u32)>,
+    /// The records that were followed.
+    followed: BTreeSet<u32>,
 }
 
 impl Tally {
@@ -53,13 +55,20 @@ impl Tally {
         }
     }
 
+    /// What following answered.
+    pub fn followed(&mut self, [refusal, _, _, record, _]: Answer) {
+        if refusal == 0 {
+            self.followed.insert(record);
+        }
+    }
+
     /// Whether this number has named such a record.
     fn bad(&self, number: u32, such: impl Fn(u32) -> bool) -> bool {
         self.records.iter().any(|&(by, record)| by == number && such(record))
     }
 
-    /// Whether every answer, every value, final and busy places of every value, the largest number that there can be and every
-    /// count of propositions and goal states have come up.
+    /// Whether every answer, every value, final and busy places of every value, the largest number that there can be, every count of
+    /// propositions and goal states, and the first and the last record that can be followed have come up.
     pub fn covered(&self) -> bool {
         let answers = self.answers.iter().enumerate().filter(|(_, &count)| count > 0);
         let answers: Vec<usize> = answers.map(|(refusal, _)| refusal).collect();
@@ -73,6 +82,7 @@ impl Tally {
             && [FIELD, ORDER].iter().all(|&number| self.bad(number, |record| record > 99))
             && self.bad(FIELD, |record| record == 0)
             && self.bad(ORDER, |record| record == 1)
+            && [0, 4_095].iter().all(|record| self.followed.contains(record))
     }
 
     pub fn print(&self) {
@@ -95,6 +105,7 @@ impl Tally {
         let (propositions, goals) = (self.labels_possible.len(), self.goals.len());
         println!("good jobs had {propositions} of 7 counts of propositions, {goals} of 32 counts of goal states");
         println!("bad records named: {}", self.records.len());
+        println!("different records followed: {}", self.followed.len());
         println!("oracle compared with the meaning itself: {} jobs", self.brute);
         println!("{} inputs agree", self.inputs);
     }

@@ -1,6 +1,6 @@
 //! What planning, starting, following and advice answer, as the figures that the calls return.
 
-use super::read::Job;
+use super::read::{Job, Move};
 use super::refusal::*;
 use super::Oracle;
 
@@ -19,13 +19,14 @@ impl Job {
         }
     }
 
-    fn follow(&self, place: [u32; 2], action: u32, outcome: u32) -> Result<[u32; 2], u32> {
+    /// The place that is entered, and the number of the record that lists the move.
+    fn follow(&self, place: [u32; 2], action: u32, outcome: u32) -> Result<[u32; 3], u32> {
         let (state, goal) = self.spot(place[0], place[1])?;
         let action = index(action, self.actions).ok_or(OUTCOME)?;
         let outcome = index(outcome, self.states).ok_or(OUTCOME)?;
-        let listed = self.outcomes(state, action).any(|other| other == outcome);
-        let after = [outcome as u32, self.goal_after(goal, outcome) as u32];
-        listed.then_some(after).ok_or(OUTCOME)
+        let made = Move { state, action, outcome };
+        let record = self.moves.iter().position(|one| *one == made).ok_or(OUTCOME)?;
+        Ok([outcome, self.goal_after(goal, outcome), record].map(|figure| figure as u32))
     }
 
     fn advice(&self, plan: &[u8], state: u32, goal: u32) -> Result<[u32; 3], u32> {
@@ -49,9 +50,10 @@ impl Job {
 /// The figures of an answer in the order in which its struct has them, the refusal first; those that it has not are 0.
 pub type Answer = [u32; 5];
 
-fn moved(answer: Result<[u32; 2], Refused>) -> Answer {
+/// The place moved to, with the record that was followed, 0 in starting.
+fn moved(answer: Result<[u32; 3], Refused>) -> Answer {
     match answer {
-        Ok([state, goal]) => [0, state, goal, 0, 0],
+        Ok([state, goal, record]) => [0, state, goal, record, 0],
         Err(Refused { number, record }) => [number, 0, 0, record, 0],
     }
 }
@@ -71,7 +73,7 @@ impl Oracle {
     }
 
     pub fn start(&self) -> Answer {
-        let start = |job: &Job| [job.first_state, job.goal_after(job.first_goal, job.first_state)];
+        let start = |job: &Job| [job.first_state, job.goal_after(job.first_goal, job.first_state), 0];
         moved(self.job().map(|job| start(job).map(|figure| figure as u32)))
     }
 

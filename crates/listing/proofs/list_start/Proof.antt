@@ -16,8 +16,8 @@ enum-known-why c = search needs
 put-refusal-requires : tie.Need-put-refusal-requires
 put-refusal-requires c κs = search needs
 
-enum-known-p : tie.Need-enum-known-p
-enum-known-p c = search needs
+enum-known-place : tie.Need-enum-known-place
+enum-known-place c = search needs
 
 list-first-requires : tie.Need-list-first-requires
 list-first-requires c κs = search needs
@@ -37,7 +37,7 @@ same-length-2 c = search needs
 returns-2 : tie.Need-returns-2
 returns-2 c =
     let d = c .before .before .before .before .before in
-    told moved-figures (moved-line _ _) (d .p .given .1) (d .before .before .start .ensures) (moved-says _ _ _)
+    told moved-figures (moved-line _ _) (d .place .given .1) (d .before .before .start .ensures) (moved-says _ _ _ _)
     (c .before .before .list-first .ensures)
 
 pub list-start-spec : {M : Type 1} → statement M
@@ -47,7 +47,7 @@ list-start-spec =
     start-requires
     enum-known-why
     put-refusal-requires
-    enum-known-p
+    enum-known-place
     list-first-requires
     same-length
     returns

@@ -1,7 +1,9 @@
 -- `Place::follow_read` meets its contract: the place is judged, then the record is looked for, and its outcome is entered.
-use mathlib.Core.Path.{_∙_}
+use native.Mathlib.Omega.{arith}
 use borrow.Author.Needs.{needs}
-use Rattle.cabinet.proofs.Answering.{no-state, no-goal, is-one, follow-no-place, follow-unknown, follow-moves, outcome-state}
+use Rattle.job.proofs.Asking.{few-records}
+use Rattle.cabinet.proofs.Answering.{no-state, no-goal, is-one, follow-no-place, follow-unknown, follow-moves, record-below}
+use Rattle.cabinet.proofs.Answering.{outcome-state}
 use Rattle.cabinet.proofs.place.Place.follow_read.Statement.{statement}
 use Rattle.cabinet.proofs.place.Place.follow_read.Tie as tie
 
@@ -27,15 +29,21 @@ find-requires c κs = search needs
 enum-told : tie.Need-enum-told
 enum-told c = search needs
 
-enum-told-2 : tie.Need-enum-told-2
-enum-told-2 c = search needs
+enum-known-k : tie.Need-enum-known-k
+enum-known-k c = search needs
 
 -- below: d is after the place's test, and f what was required
+cast-enter : tie.Need-cast-enter
+cast-enter c =
+    let d = c .before .before .before .before in
+    let f = d .before .before .before .before .before .before .before .pre in
+    omega (arith, few-records f, record-below f _ _ _ (c .before .k .given .1) (c .before .before .before .find .ensures))
+
 enter-requires : tie.Need-enter-requires
 enter-requires c κs =
-    let d = c .before .before .before in
+    let d = c .before .before .before .before in
     let f = d .before .before .before .before .before .before .before .pre in
-    (f, (d .if2 .left, outcome-state f _ _ _ (c .enum-told2 .given .1) (c .before .before .find .ensures)))
+    (f, (d .if2 .left, outcome-state f _ _ _ (c .before .k .given .1) (c .before .before .before .find .ensures)))
 
 returns-3 : tie.Need-returns-3
 returns-3 c =
@@ -46,11 +54,10 @@ returns-3 c =
 
 returns-4 : tie.Need-returns-4
 returns-4 c =
-    let d = c .before .before .before .before in
+    let d = c .before .before .before .before .before in
     let f = d .before .before .before .before .before .before .before .pre in
-    c .enter .ensures
-    ∙ follow-moves f _ _ _ _ (is-one f _ _ (d .before .before .if1 .left) (d .if2 .left)) (c .before .enum-told2 .given .1)
-    (c .before .before .before .find .ensures)
+    follow-moves f _ _ _ _ (is-one f _ _ (d .before .before .if1 .left) (d .if2 .left)) (c .before .before .k .given .1)
+    (c .before .before .before .before .find .ensures) (c .enter .ensures)
 
 pub follow-read-spec : {M : Type 1} → statement M
 follow-read-spec =
@@ -62,7 +69,8 @@ follow-read-spec =
     returns-2
     find-requires
     enum-told
-    enum-told-2
+    enum-known-k
+    cast-enter
     enter-requires
     returns-3
     returns-4)

@@ -1,5 +1,4 @@
 -- `Place::start` meets its contract: what reading refuses is refused, and what it reads is entered at its first state.
-use mathlib.Core.Path.{_∙_}
 use borrow.Author.Needs.{needs}
 use Rattle.job.proofs.Asking.{first-state, first-goal-state}
 use Rattle.cabinet.proofs.Answering.{was-read, start-refused, start-fit}
@@ -29,7 +28,7 @@ returns c =
 returns-2 : tie.Need-returns-2
 returns-2 c =
     let d = c .before .before .before .before in
-    c .enter .ensures ∙ start-fit (was-read (d .before .before .args .job .now) (c .before .before .l .given .1) (d .read .ensures))
+    start-fit (was-read (d .before .before .args .job .now) (c .before .before .l .given .1) (d .read .ensures)) (c .enter .ensures)
 
 pub start-spec : {M : Type 1} → statement M
 start-spec =
