@@ -79,7 +79,7 @@ enum cabinet_value {
 /* The answers. The refusal comes first; where it is not 0, every other figure is 0, save `record` with 12 and 13: the number of the first
    bad record of Moves, counted from 0 at the front, so that its fields are bytes 3 * record to 3 * record + 2 of Moves. All records before
    it are good. Each is judged by its fields and then by its order, so 13 says that its fields are in range, and never names record 0. With
-   every other refusal, and on success, `record` is 0. */
+   every other refusal, and on success, `record` is 0, save where `cabinet_follow` succeeds: it is then the record that was followed. */
 typedef struct {
   uint32_t refusal, record;
 } cabinet_planned;
@@ -104,7 +104,8 @@ cabinet_planned cabinet_plan(const uint8_t *job, size_t job_len, uint8_t *plan, 
 cabinet_moved cabinet_start(const uint8_t *job, size_t job_len);
 
 /* The place after an observed move: at this place the action was taken and led to the outcome. Any figures may be handed over. Following
-   is allowed where the goal is met, too. Gives 1 to 6, 9, 11, 12, 13. */
+   is allowed where the goal is met, too. On success `record` is the number of the record of Moves with this state, action and outcome,
+   counted from 0 as with 12 and 13; there is no second one. Gives 1 to 6, 9, 11, 12, 13. */
 cabinet_moved cabinet_follow(const uint8_t *job, size_t job_len, uint32_t state, uint32_t goal, uint32_t action, uint32_t outcome);
 
 /* What a plan says of a place. From a winning place the goal is met within `number` moves if the advice is followed; from a pending one some
