@@ -5,7 +5,7 @@ use mathlib.Core.List.{List}
 use mathlib.Core.Path.{_≡_, refl, _∙_}
 use native.Mathlib.Omega.{arith}
 use borrow.Author.Tests.{eq-eqb, lt-ltb, le-ltb, le-leb}
-use lib.ListN.{length, drop, length-append}
+use lib.ListN.{length}
 use Rattle.game.specs.Game.{Inside, Right, lost, met, wins, hopes, says}
 use Rattle.rules.specs.Job.{place, places, arena}
 use Rattle.rules.specs.Fault.{Fault, only}
@@ -23,7 +23,7 @@ use Rattle.game.proofs.Values.{wins-iff}
 use Rattle.game.proofs.Bounds.{wins-below, hopes-below}
 use Rattle.rules.proofs.Entries.{shaped-winning, shaped-pending}
 use Rattle.rules.proofs.Arenas.{inside-iff, size-of, arena-lawful}
-use Rattle.rules.proofs.Planned.{entry-of, planned-exactly, planned-right}
+use Rattle.rules.proofs.Planned.{entry-of, planned-exactly, planned-right, planned-long}
 
 due-true : (A n a k : ℕ) (v : ℕ) → a < A → 1 ≤ k → k < n → due A n (says v a k) ≡ true
 due-true A n a k v h i j = rw (lt-ltb a A h, le-leb 1 k i, lt-ltb k n j)
@@ -56,12 +56,6 @@ right-shaped {b} k p i (hopes {a} {n = suc n} h m s) =
     shaped-pending (said b .actions) (places (said b)) (says 1 a (suc n)) refl
     ∙ due-true (said b .actions) (places (said b)) a (suc n) 1 (L .counted p (t .0) a (t .1)) (omega arith)
     (omega (arith, size-of (said b)))
-
-planned-long : {b before after : List ℕ} {f : Fault} → Planning b before f after → f .number ≡ 0 → room (said b) ≤ length after
-planned-long (refused n) z = absurd (n z)
-planned-long (no-room e l) z = absurd (omega arith)
-planned-long (overrun e l o) z = absurd (omega arith)
-planned-long {b} {before} (planned {p} e l n plan) z = omega (arith, plan .long, length-append p (drop (room (said b)) before))
 
 -- What advice answers of each place of a plan just made is the plan's entry.
 pub advice-planned : {b before after : List ℕ} → Planning b before (only 0) after → (s q : ℕ) → is-place (said b) s q ≡ true

@@ -19,7 +19,7 @@ use Rattle.game.proofs.Search.{least-unique}
 use Rattle.game.proofs.Plays.{some-obeys}
 use Rattle.game.proofs.Hopes.{wins-winning, hopes-iff}
 use Rattle.game.proofs.Right.{pending-at}
-use Rattle.game.proofs.Following.{says-wins, hopes-says, right-named, open-named}
+use Rattle.game.proofs.Following.{right-allowed, says-wins, hopes-says, allowed-named, open-named}
 use Rattle.rules.proofs.Arenas.{arena-lawful}
 use Rattle.rules.proofs.Planned.{entry-of, planned-exactly, planned-right}
 use Rattle.cabinet.specs.Playing.{Caller, turn, turns, told, heeds, Stands, AsListed, Allows}
@@ -57,7 +57,7 @@ module _ {b before after : List ℕ} (done : Planning b before (only 0) after) w
     named : (a : ℕ) → heeding h ≡ act a → Open G (at (last h)) a → Heeded h
 
   heeded-at : (h : Play MovedFigures) → Stands b (last h) → Heeded h
-  heeded-at h s = go (right-named G L few (entry-right h s))
+  heeded-at h s = go (allowed-named G L few (right-allowed G (entry-right h s)))
     where
       x : Entry
       x = entry-of b after (at (last h))
@@ -113,7 +113,7 @@ module _ {b before after : List ℕ} (done : Planning b before (only 0) after) w
       go (met y) q rec =
           let x : turn b heeding h (o zero) ≡ h = rw (eq-eqb (last h .refusal) 0 (s .answered), q) in
           subst Ends (sym x)
-          (rec h s 0 (says-wins G L (at (last h)) (met y) refl) zero-le (λ i. o (suc i))
+          (rec h s 0 (says-wins G L (at (last h)) (right-allowed G (met y)) refl) zero-le (λ i. o (suc i))
           (subst (λ (k : Play MovedFigures). last (After k) .refusal ≡ 0) x e))
       go (wins {a} u v r) q rec =
           let f = followed b (last h .state) (last h .goal) a (o zero) in
@@ -151,7 +151,7 @@ module _ {b before after : List ℕ} (done : Planning b before (only 0) after) w
       let i = stands-inside b s in
       let a = entry-of b after p .action in
       let pend = pending-at G L p i n (hopes-iff G L (suc n) p i .0 w) in
-      let (t, m, near) = hopes-says G L p (suc n) (entry-right h s) pend w .1 in
+      let (t, m, near) = hopes-says G L p (suc n) (right-allowed G (entry-right h s)) pend w .1 in
       let j = L .closed p t a i m in
       let x : turn b heeding h (t .state) ≡ then h a (taken-to b (last h) a t) =
       rw (eq-eqb (last h .refusal) 0 (s .answered), told-entry h s, open-named G L few (t, m), listed-taken b keeps s a t m) in

@@ -21,7 +21,7 @@ use Rattle.game.proofs.Bounds.{wins-within}
 use Rattle.game.proofs.Values.{accepted-winning}
 use Rattle.game.proofs.Hopes.{wins-winning}
 use Rattle.game.proofs.Right.{right-unique}
-use Rattle.game.proofs.Following.{says-wins, says-hopes}
+use Rattle.game.proofs.Following.{right-allowed, says-wins, says-hopes}
 use Rattle.game.proofs.Visiting.{goes-hoped, goes-possible}
 use Rattle.rules.proofs.Kept.{kept}
 use Rattle.rules.proofs.Arenas.{start-inside, arena-lawful}
@@ -119,7 +119,7 @@ module _ {b before after : List ℕ} (done : Planning b before (only 0) after) w
         }
       where
         forced : WinsIn G (at (last h)) (told b after h .number)
-        forced = subst (WinsIn G (at (last h))) (number-told h s) (says-wins G L (at (last h)) (entry-right done h s) (value-told h s 2 v))
+        forced = subst (WinsIn G (at (last h))) (number-told h s) (says-wins G L (at (last h)) (right-allowed G (entry-right done h s)) (value-told h s 2 v))
 
         met-within : (o : ℕ → ℕ) → last (heeded-turns o h (told b after h .number)) .refusal ≡ 0
             → Met b (last (heeded-turns o h (told b after h .number)))
@@ -171,7 +171,7 @@ module _ {b before after : List ℕ} (done : Planning b before (only 0) after) w
     pending-played v = record { reached-by = reached; none-fewer = fewer }
       where
         hoped : HopesIn G (at (last h)) (told b after h .number)
-        hoped = subst (HopesIn G (at (last h))) (number-told h s) (says-hopes G L (at (last h)) (entry-right done h s) (value-told h s 1 v) .1)
+        hoped = subst (HopesIn G (at (last h))) (number-told h s) (says-hopes G L (at (last h)) (right-allowed G (entry-right done h s)) (value-told h s 1 v) .1)
 
         reached : (o : ℕ → ℕ) × (last (heeded-turns o h (told b after h .number)) .refusal ≡ 0)
             × (told b after (heeded-turns o h (told b after h .number)) .value ≡ 2)

@@ -13,8 +13,9 @@ use Rattle.game.proofs.Lists.{some-found, sure-at}
 use Rattle.game.proofs.Search.{clash, if-not-true, if-not-false, least-unique, not-yet}
 use Rattle.game.specs.declared.entry.Entry.{Entry}
 use Rattle.game.specs.Game.{Arena, Play, then, last, made, Choice, stop, act, Inside, Listed, Open, Accepted, Unmet, Lawful, Way}
-use Rattle.game.specs.Game.{advance, run, Obeys, Follows, Winning, Pending, Losing, WinsIn, HopesIn, Sure, Hopeful, Right, lost, met}
-use Rattle.game.specs.Game.{wins, hopes, Least}
+use Rattle.game.specs.Game.{advance, run, Obeys, Follows, Winning, Pending, Losing, WinsIn, HopesIn, Sure, Hopeful, Least}
+use Rattle.game.specs.Game as game
+use Rattle.game.specs.Allowed.{Allowed, lost, met, wins, hopes}
 use Rattle.game.proofs.Rounds.{size, won, hoped, win, win-accepted}
 use Rattle.game.proofs.Plays.{Next, over, on, next, fair-on, first, obeys-first, some-obeys, met-later}
 use Rattle.game.proofs.Values.{delays, guided-meets, wins-iff, win-winning, winning-iff, accepted-winning}
@@ -68,34 +69,42 @@ module _ (G : Arena) (e : G .Place → Entry) (σ : Way G) where
       go (over s c) = rw (s (o zero)) f
       go (on a u c s) = rw (s (o zero)) (follows-then h f u c (b zero a u c))
 
+-- ---- what is right is allowed
+
+pub right-allowed : (G : Arena) {p : G .Place} {x : Entry} → game.Right G p x → Allowed G p x
+right-allowed G (game.lost l) = lost l
+right-allowed G (game.met y) = met y
+right-allowed G (game.wins u w s) = wins u w (s .0)
+right-allowed G (game.hopes h k s) = hopes h k (s .0)
+
 -- ---- what an entry says, read back
 
 module _ (G : Arena) (L : Lawful G) (p : G .Place) where
-  pub says-wins : {x : Entry} → Right G p x → x .value ≡ 2 → WinsIn G p (x .number)
+  pub says-wins : {x : Entry} → Allowed G p x → x .value ≡ 2 → WinsIn G p (x .number)
   says-wins (lost l) q = absurd (omega arith)
   says-wins (met y) q = wins-iff G L 0 p .1 (win-accepted G 0 p y, λ m r. zero-le)
   says-wins (wins u w s) q = w
   says-wins (hopes h k s) q = absurd (omega arith)
 
-  pub says-hopes : {x : Entry} → Right G p x → x .value ≡ 1 → Pending G p × HopesIn G p (x .number)
+  pub says-hopes : {x : Entry} → Allowed G p x → x .value ≡ 1 → Pending G p × HopesIn G p (x .number)
   says-hopes (lost l) q = absurd (omega arith)
   says-hopes (met y) q = absurd (omega arith)
   says-hopes (wins u w s) q = absurd (omega arith)
   says-hopes (hopes h k s) q = (h, k)
 
-  pub wins-says : {x : Entry} (n : ℕ) → Right G p x → WinsIn G p (suc n) → (x .value ≡ 2) × Sure G p (suc n) (x .action)
+  pub wins-says : {x : Entry} (n : ℕ) → Allowed G p x → WinsIn G p (suc n) → (x .value ≡ 2) × Sure G p (suc n) (x .action)
   wins-says n (lost l) w = absurd (l .0 (wins-winning G L _ p w))
   wins-says n (met y) w = let z : suc n ≤ 0 = wins-iff G L (suc n) p .0 w .1 0 (win-accepted G 0 p y) in absurd (omega arith)
-  wins-says n (wins {a} u v s) w = (refl, subst (λ m. Sure G p m a) (least-unique v w) (s .0))
+  wins-says n (wins {a} u v s) w = (refl, subst (λ m. Sure G p m a) (least-unique v w) s)
   wins-says n (hopes h k s) w = absurd (h .0 (wins-winning G L _ p w))
 
-  pub hopes-says : {x : Entry} (n : ℕ) → Right G p x → Pending G p → HopesIn G p n → (x .value ≡ 1) × Hopeful G p n (x .action)
+  pub hopes-says : {x : Entry} (n : ℕ) → Allowed G p x → Pending G p → HopesIn G p n → (x .value ≡ 1) × Hopeful G p n (x .action)
   hopes-says n (lost l) h k = absurd (l .1 (h .1))
   hopes-says n (met y) h k = absurd (h .0 (accepted-winning G L p y))
   hopes-says n (wins u v s) h k = absurd (h .0 (wins-winning G L _ p v))
-  hopes-says n (hopes {a} g j s) h k = (refl, subst (λ m. Hopeful G p m a) (least-unique j k) (s .0))
+  hopes-says n (hopes {a} g j s) h k = (refl, subst (λ m. Hopeful G p m a) (least-unique j k) s)
 
-  pub losing-says : {x : Entry} → Right G p x → Losing G p → x .value ≡ 0
+  pub losing-says : {x : Entry} → Allowed G p x → Losing G p → x .value ≡ 0
   losing-says (lost l) k = refl
   losing-says (met y) k = absurd (k .0 (accepted-winning G L p y))
   losing-says (wins u w s) k = absurd (k .0 (wins-winning G L _ p w))
@@ -109,14 +118,14 @@ module _ (G : Arena) (L : Lawful G) (few : G .actions ≤ 255) where
   open-named {p} {a} o = let c = L .counted p (o .0) a (o .1) in ne-eqb a 255 (λ (q : a ≡ 255). omega arith)
 
   -- an entry names an open action, or none
-  pub right-named : {p : G .Place} {x : Entry} → Right G p x → Open G p (x .action) ⊎ (x .action ≡ 255)
-  right-named (lost l) = inr refl
-  right-named (met y) = inr refl
-  right-named (wins u w s) = inl (s .0 .0)
-  right-named (hopes h k s) = let t = s .0 in inl (t .0, t .1)
+  pub allowed-named : {p : G .Place} {x : Entry} → Allowed G p x → Open G p (x .action) ⊎ (x .action ≡ 255)
+  allowed-named (lost l) = inr refl
+  allowed-named (met y) = inr refl
+  allowed-named (wins u w s) = inl (s .0)
+  allowed-named (hopes h k s) = inl (s .0, s .1)
 
-  module _ (e : G .Place → Entry) (right : (p : G .Place) → Inside G p → Right G p (e p)) where
-    -- right entries can be followed, from every place inside
+  module _ (e : G .Place → Entry) (allowed : (p : G .Place) → Inside G p → Allowed G p (e p)) where
+    -- allowed entries can be followed, from every place inside
     pub follow-follows : (h : Play (G .Place)) → Inside G (last h) → Follows G e (follow G e) h
     unfolding follow
     follow-follows h i o b n u = go (last (run G (follow G e) o h n)) (run-inside G L (follow G e) n h o i b)
@@ -125,7 +134,7 @@ module _ (G : Arena) (L : Lawful G) (few : G .actions ≤ 255) where
         Does p = heed (e p .action) (G .leads p (e p .action)) ≡ cond (eqb (e p .action) 255) stop (act (e p .action))
 
         go : (p : G .Place) → Inside G p → Does p
-        go p j = by (right-named (right p j))
+        go p j = by (allowed-named (allowed p j))
           where
             by : Open G p (e p .action) ⊎ (e p .action ≡ 255) → Does p
             by (inl o) = rw (open-named o) (heed-act _ _ o)
@@ -146,7 +155,7 @@ module _ (G : Arena) (L : Lawful G) (few : G .actions ≤ 255) where
       plan-nearer : (k : Play (G .Place)) (n : ℕ) → Stands k → Least (λ m. win G m (last k) ≡ true) (suc n)
           → (a : ℕ) × (σ .choose k ≡ act a) × ((t : G .Place) → Listed G (last k) a t → Stands (then k a t) × (win G n t ≡ true))
       plan-nearer k n (f, j) l =
-          let s = wins-says G L (last k) n (right (last k) j) (wins-iff G L (suc n) (last k) .1 l) in
+          let s = wins-says G L (last k) n (allowed (last k) j) (wins-iff G L (suc n) (last k) .1 l) in
           let a = e (last k) .action in
           let u : Unmet G (last k) = if-not-true _ (λ y. let x : suc n ≤ 0 = l .1 0 (win-accepted G 0 (last k) y) in omega arith) in
           let d : σ .choose k ≡ act a = acts k f u (s .1 .0) in (
@@ -160,7 +169,7 @@ module _ (G : Arena) (L : Lawful G) (few : G .actions ≤ 255) where
           → (a : ℕ) × (t : G .Place) × (σ .choose k ≡ act a) × Listed G (last k) a t × Stands (then k a t) × (hoped G n t ≡ true)
       plan-toward k n (f, j) l =
           let p = pending-at G L (last k) j n l in
-          let s = hopes-says G L (last k) (suc n) (right (last k) j) p (hopes-iff G L (suc n) (last k) j .1 l) in
+          let s = hopes-says G L (last k) (suc n) (allowed (last k) j) p (hopes-iff G L (suc n) (last k) j .1 l) in
           let a = e (last k) .action in
           let t = some-found _ _ (hopeful-iff G L (last k) j n l a .0 (s .1)) in
           let u : Unmet G (last k) = if-not-true _ (λ y. absurd (p .0 (accepted-winning G L (last k) y))) in
@@ -172,7 +181,7 @@ module _ (G : Arena) (L : Lawful G) (few : G .actions ≤ 255) where
       pub plan-forces : e (last h) .value ≡ 2 → (o : ℕ → G .Place) → Obeys G σ o h → Accepted G (last (run G σ o h (e (last h) .number)))
       plan-forces q =
           guided-meets G L σ (Stands σ) (plan-nearer σ) (e (last h) .number) h (follows, i)
-          (wins-iff G L _ (last h) .0 (says-wins G L (last h) (right (last h) i) q) .0)
+          (wins-iff G L _ (last h) .0 (says-wins G L (last h) (allowed (last h) i) q) .0)
 
       -- From a pending place it comes, with some outcomes, to a winning one by exactly the number of moves named.
       pub plan-hopes : e (last h) .value ≡ 1
@@ -180,7 +189,7 @@ module _ (G : Arena) (L : Lawful G) (few : G .actions ≤ 255) where
           × (made (run G σ o h (e (last h) .number)) ≡ made h + e (last h) .number)
       plan-hopes q =
           let c = guided-comes G L (won G) (win-accepted G (size G)) σ (Stands σ) (plan-toward σ) (e (last h) .number) h (follows, i)
-          (hopes-iff G L _ (last h) i .0 (says-hopes G L (last h) (right (last h) i) q .1)) in
+          (hopes-iff G L _ (last h) i .0 (says-hopes G L (last h) (allowed (last h) i) q .1)) in
           (c .0, c .1, win-winning G L (size G) _ (c .2), c .3)
 
 -- ---- what no way of choosing can do, after any play

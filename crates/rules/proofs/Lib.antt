@@ -14,6 +14,7 @@ pub mod Figures
 pub mod Plans
 pub mod Unique
 pub mod Planned
+pub mod Followed
 pub mod Entries
 pub mod Existing
 pub mod Marked

@@ -5,7 +5,7 @@ use mathlib.Core.Logic.{_↔_}
 use mathlib.Core.Path.{_≡_, refl}
 use native.Mathlib.Omega.{arith}
 use lib.Arith.{digits-lt}
-use lib.ListN.{length, drop, List·getD-append}
+use lib.ListN.{length, drop, length-append, List·getD-append}
 use Rattle.game.specs.Game.{Inside, Right}
 use Rattle.rules.specs.Job.{places, entry-number, arena}
 use Rattle.rules.specs.Fault.{Fault, only}
@@ -37,6 +37,13 @@ planned-plainly (refused n) z = absurd (n z)
 planned-plainly (no-room e l) z = absurd (omega arith)
 planned-plainly (overrun e l o) z = absurd (omega arith)
 planned-plainly (planned e l n p) z = refl
+
+-- and the plan is all there
+pub planned-long : {b before after : List ℕ} {f : Fault} → Planning b before f after → f .number ≡ 0 → room (said b) ≤ length after
+planned-long (refused n) z = absurd (n z)
+planned-long (no-room e l) z = absurd (omega arith)
+planned-long (overrun e l o) z = absurd (omega arith)
+planned-long {b} {before} (planned {p} e l n plan) z = omega (arith, plan .long, length-append p (drop (room (said b)) before))
 
 -- the entry of a place in a plan with more bytes behind it
 front-entry : (p q : List ℕ) (i : ℕ) → 4 * i + 4 ≤ length p → entry (p ++ q) i ≡ entry p i
