@@ -64,16 +64,16 @@ module _ (j : Job) (f : Place → Bool) (p : Place) where
       le-ind (λ i. i ≤ m → found i a ≡ found k a) (λ g. refl) (λ i l e g. found-other i a (n i l g) ∙ e (omega arith)) m h (omega arith)
 
   -- none before the first record of the state, one record of the state more, and no more once these are all passed
-  found-none : {start : ℕ} → From j (p .state) start → (a : ℕ) → found start a ≡ false
+  pub found-none : {start : ℕ} → From j (p .state) start → (a : ℕ) → found start a ≡ false
   found-none {start} h a = found-others 0 start a zero-le (λ i l g e. omega (arith, h .below i g)) ∙ found-zero a
 
-  found-more : (k a : ℕ) → j .move k .state ≡ p .state
+  pub found-more : (k a : ℕ) → j .move k .state ≡ p .state
       → found (k + 1) a ≡ (f (entered j (p .goal) (j .move k .outcome)) && eqb a (j .move k .action) || found k a)
   found-more k a e =
       rw (add-one k, found-suc k a, eq-eqb (j .move k .state) (p .state) e, eqb-swap (j .move k .action) a)
       (ap (λ (x : Bool). x || found k a) (and-comm (eqb a (j .move k .action)) (f (entered j (p .goal) (j .move k .outcome)))))
 
-  found-all : {end : ℕ} → From j (p .state + 1) end → (a : ℕ) → found (j .records) a ≡ found end a
+  pub found-all : {end : ℕ} → From j (p .state + 1) end → (a : ℕ) → found (j .records) a ≡ found end a
   found-all {end} h a = found-others end (j .records) a (h .few) (λ i l g e. omega (arith, h .above i l g))
 
 -- the tally of the first k records

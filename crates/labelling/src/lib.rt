@@ -2,4 +2,4 @@
 pub mod plan;
 mod round;
 mod rounds;
-mod scan;
+pub mod scan;

@@ -1,0 +1,3 @@
+// The check of a plan from elsewhere: whether each entry may stand where it stands.
+pub mod check;
+mod entries;
