@@ -55,7 +55,8 @@ enum cabinet_refusal {
   CABINET_ENTRY = 10,      /* the plan's entry has none of the four shapes */
   CABINET_OUTCOME = 11,    /* no record has this state, action and outcome */
   CABINET_NO_CLAUSES = 14, /* no clause, more than three, or a length that is no multiple of 3 */
-  CABINET_CLAUSE = 15      /* P above 6, a kind above 3, a proposition not below P, or b unlike a in kinds 0 and 1 */
+  CABINET_CLAUSE = 15,     /* P above 6, a kind above 3, a proposition not below P, or b unlike a in kinds 0 and 1 */
+  CABINET_WRONG = 16       /* an entry of the plan is wrong; `state` and `goal` are the lowest such place */
 };
 
 /* The kinds of a clause, over the propositions a and b. Each is read over the labels of the states visited so far, the first one included. */
@@ -76,7 +77,7 @@ enum cabinet_value {
 /* The action of a place that has none: the goal is met, or lost. */
 #define CABINET_NO_ACTION 255
 
-/* The answers. The refusal comes first; where it is not 0, every other figure is 0, save `record` with 12 and 13: the number of the first
+/* The answers. The refusal comes first; where it is not 0, every other figure is 0, save the place with 16, and `record` with 12 and 13: the number of the first
    bad record of Moves, counted from 0 at the front, so that its fields are bytes 3 * record to 3 * record + 2 of Moves. All records before
    it are good. Each is judged by its fields and then by its order, so 13 says that its fields are in range, and never names record 0. With
    every other refusal, and on success, `record` is 0, save where `cabinet_follow` succeeds: it is then the record that was followed. */
@@ -95,6 +96,10 @@ typedef struct {
 typedef struct {
   uint32_t refusal, length;
 } cabinet_written;
+
+typedef struct {
+  uint32_t refusal, state, goal, record;
+} cabinet_checked;
 
 /* Plans the job into the buffer: entry s * Q + q, four bytes, says of state s with goal state q its value, its action (255: none) and
    its number, low byte first. Bytes beyond the plan stay as they are. Gives 1 to 8, 12, 13. */
@@ -121,6 +126,15 @@ cabinet_advised cabinet_advice(const uint8_t *job, size_t job_len, const uint8_t
    first state is busy. Put an
    existence clause beside them for what has to happen. The clauses and the buffer do not overlap. Gives 14, 15 and 7, in this order. */
 cabinet_written cabinet_goal(const uint8_t *clauses, size_t clauses_len, uint32_t propositions, uint8_t *goal, size_t goal_len);
+
+/* Whether a plan is right for the job, wherever it comes from: 0 exactly when each value and number is the place's own and each action is any open
+   one that does, so a planner that breaks ties differently passes, and so does every plan of `cabinet_plan`. An action does at a winning place when
+   all of its outcomes are winning with smaller numbers, at a pending one when some outcome is winning, where the number is 1, or else pending
+   with a number one smaller; where the goal is met, or lost, it is 255. 16 comes with the place of the lowest wrong entry, the least of s * Q + q. An
+   entry is judged by the job alone, whatever the plan's other entries say. Bytes beyond the plan are not looked at; neither job nor plan is written. The
+   call plans the job for itself on the stack: it needs 22 KiB of it. Whoever follows a plan that passes has what following our own promises. Gives 1
+   to 7, 12, 13, 16. */
+cabinet_checked cabinet_check(const uint8_t *job, size_t job_len, const uint8_t *plan, size_t plan_len);
 
 /* In short:
 

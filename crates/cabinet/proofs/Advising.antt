@@ -1,4 +1,4 @@
--- Advice on our own plan is never refused at a place: what is right has one of the four shapes.
+-- Advice on our own plan, or on one whose entries are allowed, is never refused at a place: what is allowed has one of the four shapes.
 use Prim.Native.Nat.{ℕ, zero, suc, _≤_, _<_}
 use mathlib.Core.Bool.{Bool, true, false, _||_}
 use mathlib.Core.List.{List}
@@ -6,7 +6,8 @@ use mathlib.Core.Path.{_≡_, refl, _∙_}
 use native.Mathlib.Omega.{arith}
 use borrow.Author.Tests.{eq-eqb, lt-ltb, le-ltb, le-leb}
 use lib.ListN.{length}
-use Rattle.game.specs.Game.{Inside, Right, lost, met, wins, hopes, says}
+use Rattle.game.specs.Allowed.{Allowed, lost, met, wins, hopes}
+use Rattle.game.specs.Game.{Inside, says}
 use Rattle.rules.specs.Job.{place, places, arena}
 use Rattle.rules.specs.Fault.{Fault, only}
 use Rattle.rules.specs.Bytes.{refusal, said}
@@ -16,6 +17,7 @@ use Rattle.rules.specs.Calls.{Planning, refused, no-room, overrun, planned, is-
 use Rattle.rules.specs.declared.place.Place.{Place}
 use Rattle.game.specs.declared.entry.Entry.{Entry}
 use Rattle.game.proofs.Search.{clash}
+use Rattle.game.proofs.Following.{right-allowed}
 use Rattle.game.proofs.Tests.{and-iff, ltb-iff}
 use Rattle.rules.proofs.Kept.{kept}
 use Rattle.game.proofs.Rounds.{win}
@@ -32,15 +34,15 @@ or-last : (x y : Bool) → y ≡ true → (x || y) ≡ true
 or-last true y e = refl
 or-last false y e = e
 
-pub right-shaped : {b : List ℕ} → Keeps b → (p : Place) → Inside (arena (said b)) p → {x : Entry} → Right (arena (said b)) p x
+pub allowed-shaped : {b : List ℕ} → Keeps b → (p : Place) → Inside (arena (said b)) p → {x : Entry} → Allowed (arena (said b)) p x
     → shaped (said b .actions) (places (said b)) x ≡ true
 unfolding win
-right-shaped k p i (lost l) = refl
-right-shaped k p i (met y) = refl
-right-shaped {b} k p i (wins {a} {n = zero} u w s) = absurd (clash (wins-iff (arena (said b)) (arena-lawful b k) 0 p .0 w .0) u)
-right-shaped {b} k p i (wins {a} {n = suc n} u w s) =
+allowed-shaped k p i (lost l) = refl
+allowed-shaped k p i (met y) = refl
+allowed-shaped {b} k p i (wins {a} {n = zero} u w s) = absurd (clash (wins-iff (arena (said b)) (arena-lawful b k) 0 p .0 w .0) u)
+allowed-shaped {b} k p i (wins {a} {n = suc n} u w s) =
     let L = arena-lawful b k in
-    let o = s .0 .0 in
+    let o = s .0 in
     let below = wins-below (arena (said b)) L (suc n) p i w in
     shaped-winning (said b .actions) (places (said b)) (says 2 a (suc n)) refl
     ∙ or-last (blank (says 2 a (suc n))) (due (said b .actions) (places (said b)) (says 2 a (suc n)))
@@ -48,24 +50,25 @@ right-shaped {b} k p i (wins {a} {n = suc n} u w s) =
       arith,
       size-of (said b),
     )))
-right-shaped {b} k p i (hopes {a} {n = zero} h m s) = absurd (h .0 (m .0 .3))
-right-shaped {b} k p i (hopes {a} {n = suc n} h m s) =
+allowed-shaped {b} k p i (hopes {a} {n = zero} h m s) = absurd (h .0 (m .0 .3))
+allowed-shaped {b} k p i (hopes {a} {n = suc n} h m s) =
     let L = arena-lawful b k in
-    let t = s .0 in
     let below = hopes-below (arena (said b)) L (suc n) p i m in
     shaped-pending (said b .actions) (places (said b)) (says 1 a (suc n)) refl
-    ∙ due-true (said b .actions) (places (said b)) a (suc n) 1 (L .counted p (t .0) a (t .1)) (omega arith)
+    ∙ due-true (said b .actions) (places (said b)) a (suc n) 1 (L .counted p (s .0) a (s .1)) (omega arith)
     (omega (arith, size-of (said b)))
 
--- What advice answers of each place of a plan just made is the plan's entry.
+-- What advice answers of a place whose entry is allowed is that entry;
+pub advice-allowed : (b p : List ℕ) → Keeps b → room (said b) ≤ length p → (s q : ℕ) → is-place (said b) s q ≡ true
+    → Allowed (arena (said b)) (place s q) (entry-of b p (place s q)) → advised b p s q ≡ advice-of (entry-of b p (place s q))
+advice-allowed b p k l s q h a =
+    let i = inside-iff (said b) (place s q) .1 (and-iff (ltb-iff s (said b .states)) (ltb-iff q (said b .goals)) .0 h) in
+    rw (eq-eqb (refusal b) 0 (kept b .1 k), le-ltb (length p) (room (said b)) l, h, allowed-shaped k (place s q) i a)
+
+-- so it is of each place of a plan just made.
 pub advice-planned : {b before after : List ℕ} → Planning b before (only 0) after → (s q : ℕ) → is-place (said b) s q ≡ true
     → advised b after s q ≡ advice-of (entry-of b after (place s q))
-advice-planned {b} {before} {after} done s q p =
-    let k = planned-exactly done .0 refl .0 in
+advice-planned {b} {after} done s q p =
     let i = inside-iff (said b) (place s q) .1 (and-iff (ltb-iff s (said b .states)) (ltb-iff q (said b .goals)) .0 p) in
-    rw (
-      eq-eqb (refusal b) 0 (kept b .1 k),
-      le-ltb (length after) (room (said b)) (planned-long done refl),
-      p,
-      right-shaped k (place s q) i (planned-right done refl (place s q) i),
-    )
+    advice-allowed b after (planned-exactly done .0 refl .0) (planned-long done refl) s q p
+    (right-allowed (arena (said b)) (planned-right done refl (place s q) i))

@@ -10,5 +10,6 @@ pub mod Callers
 pub mod Advising
 pub mod Ranges
 pub mod Slips
+pub mod Checking
 pub mod Looping
 pub mod Playing

@@ -40,13 +40,13 @@ abbrev pub OfAdvice : ℕ → Type 0
 OfAdvice n = OfJob n ⊎ ((n ≡ 7) ⊎ ((n ≡ 9) ⊎ (n ≡ 10)))
 
 -- a number alone that is allowed; what refuses the bytes, where more than that is allowed
-alone : {P : ℕ → Type 0} (n : ℕ) → P n → Told P (only n)
+pub alone : {P : ℕ → Type 0} (n : ℕ) → P n → Told P (only n)
 alone n h = record { among = h; no-record = λ d e. refl }
 
-of-bytes : (b : List ℕ) {P : ℕ → Type 0} → ((n : ℕ) → OfJob n → P n) → Told P (fault b)
+pub of-bytes : (b : List ℕ) {P : ℕ → Type 0} → ((n : ℕ) → OfJob n → P n) → Told P (fault b)
 of-bytes b wider = record { among = wider _ (told b .among); no-record = told b .no-record }
 
-of-success : OfJob 0
+pub of-success : OfJob 0
 of-success = inl (omega arith)
 
 pub plan-range : {b before after : List ℕ} (r : PlannedFigures) → Planning b before (figures-planned r) after
@@ -110,10 +110,10 @@ advice-range b p s q r e =
 -- a byte longer
 
 -- record 3 with a field out of range, and record 5 not after record 4
-abbrev field-out : List ℕ
+abbrev pub field-out : List ℕ
 field-out = set plate 37 4
 
-abbrev order-out : List ℕ
+abbrev pub order-out : List ℕ
 order-out = set plate 41 1
 
 abbrev not-whole : List ℕ

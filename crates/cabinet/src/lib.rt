@@ -1,4 +1,5 @@
 // The calls for C, and the place that a caller holds.
 pub mod calls;
+pub mod checks;
 pub mod goals;
 pub mod place;

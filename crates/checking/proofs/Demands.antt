@@ -1,12 +1,12 @@
 -- The third demand, over a plan from elsewhere that the check passes: the same laws as for our own plans.
 use Prim.Native.Nat.{ℕ}
 use mathlib.Core.List.{List}
-use mathlib.Core.Path.{_≡_, refl}
+use mathlib.Core.Path.{_≡_}
 use Rattle.game.specs.Allowed.{Allowed}
 use Rattle.game.specs.Game.{Play, last, Inside, Way, run, Obeys, Follows}
 use Rattle.game.specs.Demands.{ValueTold, WinningKept, PendingKept}
 use Rattle.rules.specs.Job.{arena}
-use Rattle.rules.specs.Fault.{only}
+use Rattle.rules.specs.Fault.{Fault}
 use Rattle.rules.specs.Bytes.{said}
 use Rattle.rules.specs.Keeps.{Keeps}
 use Rattle.rules.specs.declared.place.Place.{Place}
@@ -16,12 +16,12 @@ use Rattle.rules.proofs.Followed as followed
 use Rattle.checking.specs.Checking.{Checking}
 use Rattle.checking.proofs.Checked.{checked-exactly}
 
-module _ {b plan : List ℕ} (done : Checking b plan (only 0) 0 0) where
+module _ {b plan : List ℕ} {f : Fault} {s q : ℕ} (done : Checking b plan f s q) (z : f .number ≡ 0) where
   pub passed-keeps : Keeps b
-  passed-keeps = checked-exactly done .0 refl .0
+  passed-keeps = checked-exactly done .0 z .0
 
   pub passed-allowed : (p : Place) → Inside (arena (said b)) p → Allowed (arena (said b)) p (entry-of b plan p)
-  passed-allowed p i = let (hs, hq) = inside-iff (said b) p .0 i in checked-exactly done .0 refl .2 (p .state) (p .goal) hs hq
+  passed-allowed p i = let (hs, hq) = inside-iff (said b) p .0 i in checked-exactly done .0 z .2 (p .state) (p .goal) hs hq
 
   -- each value is the place's
   pub passed-values : (p : Place) → Inside (arena (said b)) p → ValueTold (arena (said b)) p (entry-of b plan p)

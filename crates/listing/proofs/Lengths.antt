@@ -23,7 +23,8 @@ use Rattle.game.proofs.Tests.{and-iff, or-iff, ltb-iff, leb-iff, eqb-iff}
 use Rattle.rules.proofs.Numbers.{named-few, Among, told}
 use Rattle.rules.proofs.Arenas.{inside-iff, start-inside}
 use Rattle.rules.proofs.Planned.{planned-right}
-use Rattle.cabinet.proofs.Advising.{right-shaped}
+use Rattle.cabinet.proofs.Advising.{allowed-shaped}
+use Rattle.game.proofs.Following.{right-allowed}
 use Rattle.text.specs.Lines.{decimal, bytes, value-word, action-word, line-of, entry-line, start-line, names-record, refusal-line}
 use Rattle.text.proofs.Digits.{decimal-length}
 use Rattle.text.proofs.Putting.{put-whole}
@@ -103,7 +104,7 @@ module _ {b before after : List ℕ} (done : Planning b before (only 0) after) w
       let k = keeps done in
       shaped-few (said b .actions) (places (said b)) (planned-entry (said b) after x) (k .few-actions)
       (mul-le-mul (k .few-states) (k .few-goals))
-      (right-shaped k x i (planned-right done refl x i))
+      (allowed-shaped k x i (right-allowed (arena (said b)) (planned-right done refl x i)))
 
   short-lines : length (lines (place-line (said b) after) (said b .states) (said b .goals)) ≤ 94208
   short-lines =
