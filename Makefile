@@ -31,13 +31,13 @@ install_listing = mkdir -p $(DESTDIR)$(PREFIX)/libexec && cp target/bin/listing 
   echo "The archive is for x86-64, and so is the listing: cabinet-list is a script that runs it under the toolchain's emulator."
 endif
 
-.PHONY: test plan lib examples install bench soak tests try-examples try-listing try-inputs try-slips need-rt need-cc need-cargo need-x86
+.PHONY: test plan lib examples install bench soak tests try-examples try-listing try-inputs try-slips try-checks need-rt need-cc need-cargo need-x86
 
 # Everything, from nothing: the layout of the files, the calls from C, the listing, many inputs, and last the toolchain's gate.
 test: need-rt need-cc need-cargo
 	@rt fmt --check
 	@rm -f build/libcabinet.a
-	@$(MAKE) --no-print-directory try-examples try-inputs try-slips try-listing
+	@$(MAKE) --no-print-directory try-examples try-inputs try-slips try-checks try-listing
 	@rt ci
 
 # Proves what has changed, builds, and lists a job.
@@ -77,6 +77,9 @@ try-inputs: tests
 
 try-slips: tests
 	@$(TESTS) slips
+
+try-checks: tests
+	@$(TESTS) checks
 
 try-listing: tests
 	@rt check listing >build/plan.log 2>&1 || { cat build/plan.log; exit 1; }

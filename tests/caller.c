@@ -17,7 +17,7 @@
 #include "cabinet.h"
 
 enum { PAGE = 4096, JOB_SIZE = 20 * PAGE, PLAN_SIZE = 5 * PAGE };
-enum { INPUT, DUE, LEND, PLAN, START, FOLLOW, ADVICE, TIME, GOAL, TIME_START, TIME_FOLLOW };
+enum { INPUT, DUE, LEND, PLAN, START, FOLLOW, ADVICE, TIME, GOAL, CHECK, TIME_START, TIME_FOLLOW, TIME_CHECK };
 
 /* A line: what to do, the side of the fence (1: buffers begin after it), how many bytes come after it, the call's figures, the answer that is due. */
 static struct {
@@ -143,6 +143,17 @@ static void say_move_time(const uint8_t *job) {
   fflush(stdout);
 }
 
+/* The time of so many checks of the plan that was lent. */
+static void say_check_time(const uint8_t *job, uint32_t times) {
+  const uint8_t *plan = place(&plans, lent_len);
+  struct timespec from, to;
+  clock_gettime(CLOCK_MONOTONIC, &from);
+  for (; times > 0; times--) cabinet_check(job, job_len, plan, lent_len);
+  clock_gettime(CLOCK_MONOTONIC, &to);
+  printf("%lld\n", (to.tv_sec - from.tv_sec) * 1000000000LL + (to.tv_nsec - from.tv_nsec));
+  fflush(stdout);
+}
+
 static void call(void) {
   const uint8_t *job = place(&jobs, job_len), *plan = place(&plans, lent_len);
   const uint32_t *f = line.figures;
@@ -157,6 +168,10 @@ static void call(void) {
     cabinet_written goal = cabinet_goal(job, job_len, f[2], lent, f[0]);
     answer[0] = goal.refusal, answer[1] = goal.length;
     same_memory(lent, answer[0]);
+  } else if (line.what == CHECK) {
+    set_rights(&plans, PROT_READ);
+    cabinet_checked checked = cabinet_check(job, job_len, plan, lent_len);
+    answer[0] = checked.refusal, answer[1] = checked.state, answer[2] = checked.goal, answer[3] = checked.record;
   } else if (line.what == ADVICE) {
     cabinet_advised say = cabinet_advice(job, job_len, plan, lent_len, f[0], f[1]);
     answer[0] = say.refusal, answer[1] = say.value, answer[2] = say.action, answer[3] = say.number, answer[4] = say.record;
@@ -198,6 +213,7 @@ int main(int words, char **word) {
       if (due_len > sizeof due_plan || fread(due_plan, 1, due_len, stdin) != due_len) fail("a line without its bytes");
       break;
     case LEND: lent_len = take(&plans); break;
+    case TIME_CHECK: say_check_time(place(&jobs, job_len), line.figures[0]); break;
     case TIME: say_time(place(&jobs, job_len), line.figures[0], line.figures[1]); break;
     case TIME_START:
     case TIME_FOLLOW: say_move_time(place(&jobs, job_len)); break;

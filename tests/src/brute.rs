@@ -53,9 +53,9 @@ fn pending_number(job: &Job, place: usize, winning: &[Option<usize>]) -> Option<
     None
 }
 
-/// The lowest open action that keeps the count of moves: with every outcome where the place is winning, with one
+/// The open actions that keep the count of moves, ascending: with every outcome where the place is winning, with one
 /// where it is pending.
-fn lowest(job: &Job, (state, goal): (usize, usize), good: impl Fn(usize) -> bool, every: bool) -> u8 {
+fn keeping(job: &Job, (state, goal): (usize, usize), good: impl Fn(usize) -> bool, every: bool) -> Vec<u8> {
     let after = |outcome: usize| job.place(outcome, job.goal_after(goal, outcome));
     let mut sound: Vec<(usize, bool)> = Vec::new();
     for one in job.moves_of(state) {
@@ -66,29 +66,37 @@ fn lowest(job: &Job, (state, goal): (usize, usize), good: impl Fn(usize) -> bool
             None => sound.push((one.action, fine)),
         }
     }
-    let actions = sound.iter().filter(|(_, fine)| *fine).map(|(action, _)| *action);
-    actions.min().expect("a winning or pending place has an action") as u8
+    let mut actions: Vec<u8> = sound.iter().filter(|(_, fine)| *fine).map(|(action, _)| *action as u8).collect();
+    actions.sort_unstable();
+    actions
 }
 
-fn entry(job: &Job, place: usize, winning: &[Option<usize>]) -> Entry {
+/// The value and number of a place, with every action that may stand in its entry.
+fn entry(job: &Job, place: usize, winning: &[Option<usize>]) -> (u8, usize, Vec<u8>) {
     let spot = (place / job.goals, place % job.goals);
     let nearest = |place: usize| pending_number(job, place, winning);
     match (winning[place], nearest(place)) {
-        (Some(0), _) => Entry { value: WINNING, action: 255, number: 0 },
+        (Some(0), _) => (WINNING, 0, vec![255]),
         (Some(number), _) => {
             let sooner = |after: usize| wins_within(job, after / job.goals, after % job.goals, number - 1);
-            Entry { value: WINNING, action: lowest(job, spot, sooner, true), number }
+            (WINNING, number, keeping(job, spot, sooner, true))
         }
         (None, Some(number)) => {
             let nearer = |after: usize| nearest(after) == Some(number - 1);
-            Entry { value: PENDING, action: lowest(job, spot, nearer, false), number }
+            (PENDING, number, keeping(job, spot, nearer, false))
         }
-        (None, None) => Entry { value: LOSING, action: 255, number: 0 },
+        (None, None) => (LOSING, 0, vec![255]),
     }
 }
 
-pub fn entries(job: &Job) -> Vec<Entry> {
+/// Each place's entry, with every action that may stand in it, the lowest first.
+pub fn entries(job: &Job) -> Vec<(Entry, Vec<u8>)> {
     let number = |place: usize| winning_number(job, place / job.goals, place % job.goals);
     let winning: Vec<Option<usize>> = (0..job.places()).map(number).collect();
-    (0..job.places()).map(|place| entry(job, place, &winning)).collect()
+    let whole = |place: usize| {
+        let (value, number, actions) = entry(job, place, &winning);
+        let action = *actions.first().expect("a winning or pending place has an action");
+        (Entry { value, action, number }, actions)
+    };
+    (0..job.places()).map(whole).collect()
 }

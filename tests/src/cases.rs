@@ -33,8 +33,10 @@ enum What {
     Advice,
     Time,
     Goal,
+    Check,
     TimeStart,
     TimeFollow,
+    TimeCheck,
 }
 
 /// What went wrong: the number of the input, which of its calls it was, and how.
@@ -113,7 +115,7 @@ impl Cases {
         self.line(What::Due, Side::Begin, plan, [0; 4], [0; 5]);
     }
 
-    /// The bytes that advice gets as its plan.
+    /// The bytes that advice and the check get as their plan.
     pub fn lend(&mut self, side: Side, plan: &[u8]) {
         self.line(What::Lend, side, plan, [0; 4], [0; 5]);
     }
@@ -127,6 +129,7 @@ impl Cases {
             Call::Goal { room, before, propositions, side } => {
                 (What::Goal, side, [room as u32, before, propositions, 0])
             }
+            Call::Check { side, .. } => (What::Check, side, [0; 4]),
         };
         self.line(what, side, &[], figures, due);
         self.calls.push(call);
@@ -146,6 +149,11 @@ impl Cases {
     /// The seconds that so many calls of following this state, action and outcome take.
     pub fn time_follow(&mut self, side: Side, times: u32, [state, action, outcome]: [u32; 3]) -> f64 {
         self.timed(What::TimeFollow, side, [times, state, action, outcome])
+    }
+
+    /// The seconds that so many checks of the plan that was lent take.
+    pub fn time_check(&mut self, side: Side, times: u32) -> f64 {
+        self.timed(What::TimeCheck, side, [times, 0, 0, 0])
     }
 
     fn timed(&mut self, what: What, side: Side, figures: [u32; 4]) -> f64 {

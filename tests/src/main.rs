@@ -4,6 +4,7 @@ mod bench;
 mod brute;
 mod cases;
 mod check;
+mod checks;
 mod listings;
 mod make;
 mod oracle;
@@ -28,6 +29,7 @@ cabinet-tests again SEED NUMBER    one input of a run once more
 cabinet-tests bench [DATE]         times beside other planners (or the date in BENCH_DATE)
 cabinet-tests list                 the oracle's listing of the job on standard input
 cabinet-tests slips [SEED]         goals from slips, every body byte by byte and by what it means
+cabinet-tests checks [SEED]        plans from elsewhere, every tie and many changes, judged place for place
 cabinet-tests listings WORDS       the listing program, started by these words, beside the oracle's listing";
 
 /// Tries the inputs with these numbers, prints the counts and says whether everything has come up.
@@ -88,6 +90,12 @@ fn command(words: &[String]) -> Option<()> {
         "slips" => {
             if !slips::agree(seed_at(1)?) {
                 println!("but not every answer and every count of clauses has come up");
+                std::process::exit(1);
+            }
+        }
+        "checks" => {
+            if !checks::agree(seed_at(1)?) {
+                println!("but not every answer and every kind of change has come up");
                 std::process::exit(1);
             }
         }

@@ -45,6 +45,10 @@ pub enum Call {
         propositions: u32,
         side: Side,
     },
+    Check {
+        plan_len: usize,
+        side: Side,
+    },
 }
 
 impl Display for Call {
@@ -62,11 +66,12 @@ impl Display for Call {
             Call::Goal { room, propositions, side, .. } => {
                 write!(to, "cabinet_goal, propositions {propositions}, goal_len {room}; {side}")
             }
+            Call::Check { plan_len, side } => write!(to, "cabinet_check, plan_len {plan_len}; {side}"),
         }
     }
 }
 
-fn hex(bytes: &[u8]) -> String {
+pub fn hex(bytes: &[u8]) -> String {
     bytes.iter().fold(String::new(), |mut text, byte| {
         let _ = write!(text, "{byte:02X}");
         text

@@ -1,5 +1,6 @@
 //! Times the library's planning beside the same method in plain Rust and beside the oracle, in one run; and its other calls alone.
 
+mod checks;
 mod plain;
 mod table;
 
@@ -93,14 +94,17 @@ fn measure(cases: &mut Cases, name: &'static str, job: &[u8]) -> Line {
 
 pub fn bench(date: &str) {
     let cases = &mut Cases::new();
-    let lines = [
-        measure(cases, "One plate", &known::one_plate()),
-        measure(cases, "middling", &make::middling(SEED)),
-        measure(cases, "longest", &make::longest(SEED)),
-        measure(cases, "deepest, all winning", &make::deepest(SEED, Doubt::None)),
-        measure(cases, "deepest, all pending", &make::deepest(SEED, Doubt::AtTheEnd)),
+    let jobs = [
+        ("One plate", known::one_plate()),
+        ("middling", make::middling(SEED)),
+        ("longest", make::longest(SEED)),
+        ("deepest, all winning", make::deepest(SEED, Doubt::None)),
+        ("deepest, all pending", make::deepest(SEED, Doubt::AtTheEnd)),
     ];
+    let lines = jobs.each_ref().map(|(name, job)| measure(cases, name, job));
     table::print(&lines, date, REPEATS);
+    println!();
+    checks::print(cases, &jobs);
     println!();
     println!(
         "The longest Goal body from slips, three clauses over six propositions, is written in {}.",

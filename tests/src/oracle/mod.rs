@@ -1,6 +1,7 @@
 //! The independent planner: what each call has to answer, worked out backward from the accepted places.
 
 mod calls;
+mod checking;
 mod listing;
 mod plan;
 mod read;

@@ -14,6 +14,7 @@ pub const FIELD: u32 = 12;
 pub const ORDER: u32 = 13;
 pub const NO_CLAUSES: u32 = 14;
 pub const CLAUSE: u32 = 15;
+pub const WRONG: u32 = 16;
 
 /// Why a call says no; the record is 0 unless the number is FIELD or ORDER.
 #[derive(Clone, Copy, Debug, PartialEq, Eq)]
