@@ -173,7 +173,7 @@ pub fn fits_all(job: &[u8], l: Layout, plan: &[u8], own: &[u8]) -> usize
     let mut start: usize = 0;
     let mut s: usize = 0;
     while s < states {
-        let end = labelling::scan::range_end(job, l, s, start);
+        let end = labelling::range::range_end(job, l, s, start);
         let x = fits_state(job, l, plan, own, s, start, end);
         if x < s * goals + goals {
             return x;

@@ -14,6 +14,16 @@ use Rattle.labelling.specs.Scan.{From, Range}
 pub from-start : (j : Job) → From j 0 0
 from-start j = record { few = zero-le; below = λ i h. absurd (omega arith); above = λ i h g. zero-le }
 
+-- the records of states below s end at one place only
+from-not-below : {j : Job} {s k m : ℕ} → From j s k → From j s m → k < m → ⊥
+from-not-below {k = k} f g h = omega (arith, g .below k h, f .above k (omega arith) (omega (arith, g .few)))
+
+pub from-unique : {j : Job} {s k m : ℕ} → From j s k → From j s m → k ≡ m
+from-unique f g =
+    let up = from-not-below f g in
+    let down = from-not-below g f in
+    omega arith
+
 -- the records before k are passed, none of a state above s; those of states below s are those before start
 pub record Passing (j : Job) (s start k : ℕ) : Type 0 where
   pub first : From j s start

@@ -115,7 +115,7 @@ pub fn one_round(
     let mut start: usize = 0;
     let mut s: usize = 0;
     while s < states {
-        let end = crate::scan::range_end(job, l, s, start);
+        let end = crate::range::range_end(job, l, s, start);
         label_state(&mut new, plan, job, l, &old, s, start, end, phase, number);
         start = end;
         s += 1;

@@ -1,10 +1,10 @@
 // The records of one state, looked through for one place: which actions are open, which may lead into a set of places, which out of it.
 ghost use mathlib.Core.Path.{_≡_};
-ghost use Prim.Native.Nat.{_+_, _<_, _≤_};
+ghost use Prim.Native.Nat.{_<_};
 ghost use Rattle.rules.specs.Bytes.{said};
 ghost use Rattle.rules.specs.Job.{entered, place};
 ghost use Rattle.job.specs.Layout.{Fit};
-ghost use Rattle.labelling.specs.Scan.{in-set, From, Range, Tallied, Scanned, LowestPassing, tallied-for};
+ghost use Rattle.labelling.specs.Scan.{in-set, Range, Tallied, Scanned, LowestPassing, tallied-for};
 use job::layout::Layout;
 use sets::actions::ActionSet;
 use sets::actions::LowestAction;
@@ -21,24 +21,6 @@ pub struct Tally {
     pub opens: ActionSet,
     pub held: ActionSet,
     pub spoilt: ActionSet,
-}
-
-// Where the records of state s end, which begin at start.
-pub fn range_end(job: &[u8], l: Layout, s: usize, start: usize) -> usize
-    requires { ⌜ Fit (now job) l ⌝ }
-    requires { ⌜ From (said (now job)) s start ⌝ }
-    ensures { λ r. ⌜ (start ≤ r) × From (said (now (job .entry))) (s + 1) r ⌝ }
-{
-    let n = l.records;
-    let mut k = start;
-    while k < n {
-        let m = job::ask::move_at(job, l, k);
-        if m.state as usize != s {
-            return k;
-        }
-        k += 1;
-    }
-    k
 }
 
 // Whether the place that is entered with state t from goal state q is in the set.

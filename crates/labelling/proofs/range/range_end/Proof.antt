@@ -5,8 +5,8 @@ use borrow.Author.Needs.{needs}
 use Rattle.rules.specs.Bytes.{said}
 use Rattle.job.proofs.Asking.{records-said}
 use Rattle.labelling.proofs.Ranging.{Passing, passing-none, passing-more, from-other, from-end}
-use Rattle.labelling.proofs.scan.range_end.Statement.{statement}
-use Rattle.labelling.proofs.scan.range_end.Tie as tie
+use Rattle.labelling.proofs.range.range_end.Statement.{statement}
+use Rattle.labelling.proofs.range.range_end.Tie as tie
 
 abbrev Inv-loop : tie.InvT-loop
 Inv-loop job l s start n k₀ k = Passing (said job) s start k
