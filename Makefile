@@ -16,6 +16,7 @@ C_WORDS = -std=c11 $(WARNINGS) $(CFLAGS) -Iinclude
 ifeq ($(MACHINE),x86_64)
 RUN =
 install_listing = cp target/bin/listing $(DESTDIR)$(PREFIX)/bin/cabinet-list
+ARM_NOTE =
 c_program = $(CC) $(C_WORDS) $(1) build/libcabinet.a -o $(2)
 else
 KIT = $(patsubst %/docs/START-HERE.md,%,$(shell rt doc 2>/dev/null))/on/$(MACHINE)
@@ -25,11 +26,14 @@ HEADERS = $(shell $(CC) -print-file-name=include) /usr/include/$(shell $(CC) -pr
 c_object = $(TOOLS)/bin/clang --target=x86_64-linux-gnu -nostdinc $(addprefix -isystem ,$(HEADERS)) $(C_WORDS) -c
 c_link = $(KIT)/bin/rattle-link --target x86_64-unknown-linux-gnu --toolchain $(TOOLS)
 c_program = $(c_object) $(1) -o $(2).o && { $(c_link) -o $(2) $(2).o build/libcabinet.a 2>build/link.log || { cat build/link.log; exit 1; }; }
-install_listing = mkdir -p $(DESTDIR)$(PREFIX)/libexec && cp target/bin/listing $(DESTDIR)$(PREFIX)/libexec/cabinet-list && \
-  printf '\#!/bin/sh\nexec %s %s\n' '$(RUN)' $(PREFIX)/libexec/cabinet-list >$(DESTDIR)$(PREFIX)/bin/cabinet-list && \
-  chmod 755 $(DESTDIR)$(PREFIX)/bin/cabinet-list && \
-  echo "The archive is for x86-64, and so is the listing: cabinet-list is a script that runs it under the toolchain's emulator."
+install_listing = $(call install_script,listing,cabinet-list,install/run.in)
+ARM_NOTE = The archive is for x86-64, and so are the programs: cabinet-list and cabinet-check run them under the toolchain's emulator.
 endif
+
+# $(call install_script,PROGRAM,NAME,SCRIPT): the program goes to libexec, and a script that runs it to bin.
+script_for = sed 's|@PROGRAM@|$(strip $(RUN) $(1))|' $(2) >$(3) && chmod 755 $(3)
+install_script = mkdir -p $(DESTDIR)$(PREFIX)/libexec && cp target/bin/$(1) $(DESTDIR)$(PREFIX)/libexec/$(2) && \
+  $(call script_for,$(PREFIX)/libexec/$(2),$(3),$(DESTDIR)$(PREFIX)/bin/$(2))
 
 .PHONY: test plan lib examples install bench soak tests try-examples try-listing try-inputs try-slips try-checks need-rt need-cc need-cargo need-x86
 
@@ -80,6 +84,9 @@ try-slips: tests
 
 try-checks: tests
 	@$(TESTS) checks
+	@rt check compare >build/check.log 2>&1 || { cat build/check.log; exit 1; }
+	@$(call script_for,$(CURDIR)/target/bin/compare,install/check.in,build/cabinet-check)
+	@sh tests/checking/run $(CURDIR)/build/cargo/release/cabinet-tests $(CURDIR)/build/cabinet-check
 
 try-listing: tests
 	@rt check listing >build/plan.log 2>&1 || { cat build/plan.log; exit 1; }
@@ -97,13 +104,15 @@ bench: need-x86 tests
 	@{ echo '# Speed'; echo; cat build/bench.md; } >docs/BENCH.md
 
 install: lib
-	@rt check listing >build/plan.log 2>&1 || { cat build/plan.log; exit 1; }
+	@rt check listing compare >build/plan.log 2>&1 || { cat build/plan.log; exit 1; }
 	@mkdir -p $(DESTDIR)$(PREFIX)/lib/pkgconfig $(DESTDIR)$(PREFIX)/include $(DESTDIR)$(PREFIX)/bin
 	@cp build/libcabinet.a $(DESTDIR)$(PREFIX)/lib/
 	@cp include/cabinet.h $(DESTDIR)$(PREFIX)/include/
 	@sed 's|@PREFIX@|$(PREFIX)|' cabinet.pc.in >$(DESTDIR)$(PREFIX)/lib/pkgconfig/cabinet.pc
 	@$(install_listing)
-	@echo "installed the archive, the header, cabinet.pc and cabinet-list under $(DESTDIR)$(PREFIX)"
+	@$(call install_script,compare,cabinet-check,install/check.in)
+	@[ -z "$(ARM_NOTE)" ] || echo "$(ARM_NOTE)"
+	@echo "installed the archive, the header, cabinet.pc, cabinet-list and cabinet-check under $(DESTDIR)$(PREFIX)"
 
 need-rt:
 	@command -v rt >/dev/null 2>&1 || { echo "Missing: the Rattle toolchain, that is the command rt on the PATH." >&2; exit 1; }

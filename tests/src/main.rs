@@ -29,6 +29,7 @@ cabinet-tests again SEED NUMBER    one input of a run once more
 cabinet-tests bench [DATE]         times beside other planners (or the date in BENCH_DATE)
 cabinet-tests list                 the oracle's listing of the job on standard input
 cabinet-tests slips [SEED]         goals from slips, every body byte by byte and by what it means
+cabinet-tests check JOB PLAN       the line that the oracle prints of these files
 cabinet-tests checks [SEED]        plans from elsewhere, every tie and many changes, judged place for place
 cabinet-tests listings WORDS       the listing program, started by these words, beside the oracle's listing";
 
@@ -100,6 +101,10 @@ fn command(words: &[String]) -> Option<()> {
             }
         }
         "list" => list(),
+        "check" => {
+            let file = |index: usize| Some(std::fs::read(words.get(index)?).expect("the file can be read"));
+            print!("{}", oracle::checked(&file(1)?, &file(2)?));
+        }
         "listings" if words.len() > 1 => {
             if !listings::agree(&words[1..], SEED) {
                 println!("but not everything that a listing can say has come up");

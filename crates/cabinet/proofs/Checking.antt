@@ -21,11 +21,11 @@ use Rattle.rules.specs.Examples.{plate}
 use Rattle.rules.specs.declared.place.Place.{Place}
 use Rattle.game.proofs.Tests.{and-iff, ltb-iff}
 use Rattle.rules.proofs.Figures.{known-by}
-use Rattle.rules.proofs.Numbers.{Told, told}
+use Rattle.rules.proofs.Numbers.{Told}
 use Rattle.rules.proofs.Planned.{entry-of}
 use Rattle.checking.specs.Checking as checking
 use Rattle.checking.specs.Checking.{AllowedAt, Checking, refused, no-room, wrong, passed, Checks}
-use Rattle.checking.proofs.Checked.{checking-unique, checked-exactly, own-always-passes}
+use Rattle.checking.proofs.Checked.{checking-unique, checked-exactly, WrongAt, wrong-at, own-always-passes}
 use Rattle.checking.proofs.Demands.{passed-values, passed-followable, passed-on, passed-wins, passed-hopes}
 use Rattle.cabinet.specs.Checks.{figures-checked}
 use Rattle.cabinet.specs.declared.checks.CheckedFigures.{CheckedFigures}
@@ -69,24 +69,8 @@ check-clear r c = go c
     go (wrong e l hs hq w f) d = absurd (d refl)
     go (passed e l f) d = (refl, refl)
 
-pub check-inside : {b p : List ℕ} (r : CheckedFigures) → CheckCalled b p r → r .refusal ≡ 16
-    → (r .state < said b .states) × (r .goal < said b .goals) × (AllowedAt b p (r .state) (r .goal) → ⊥)
-check-inside {b} {p} r c = go c
-  where
-    go : {f : Fault} {s q : ℕ} → Checking b p f s q → f .number ≡ 16
-        → (s < said b .states) × (q < said b .goals) × (AllowedAt b p s q → ⊥)
-    go (refused n) z = absurd (never (told b) z)
-      where
-        never : {f : Fault} → Told OfJob f → f .number ≡ 16 → ⊥
-        never t z = among (t .among) z
-          where
-            among : {n : ℕ} → OfJob n → n ≡ 16 → ⊥
-            among (inl h) e = omega arith
-            among (inr (inl h)) e = omega arith
-            among (inr (inr h)) e = omega arith
-    go (no-room e l) z = absurd (omega arith)
-    go (wrong e l hs hq w f) z = (hs, hq, w)
-    go (passed e l f) z = absurd (omega arith)
+pub check-inside : {b p : List ℕ} (r : CheckedFigures) → CheckCalled b p r → r .refusal ≡ 16 → WrongAt b p (r .state) (r .goal)
+check-inside r c = wrong-at c
 
 -- ---- each of them is given: 0 on every plan of ours; of One plate 7, and 16 where every byte of the plan is 0; of One plate with a bad
 -- record 12 and 13

@@ -1,7 +1,7 @@
 -- The check has one answer, yes exactly when each entry is allowed, and our own plans always pass.
 use Prim.Native.Nat.{ℕ, _+_, _*_, _/_, _%_, _≤_, _<_}
 use mathlib.Core.List.{List}
-use mathlib.Core.Logic.{_↔_}
+use mathlib.Core.Logic.{inl, inr, _↔_}
 use mathlib.Core.Path.{_≡_, refl, sym, _∙_, ap}
 use native.Mathlib.Omega.{arith}
 use lib.Arith.{digits-div, digits-mod}
@@ -14,6 +14,7 @@ use Rattle.rules.specs.Plan.{room}
 use Rattle.rules.specs.Keeps.{Keeps}
 use Rattle.rules.specs.Calls.{Planning}
 use Rattle.rules.proofs.Kept.{kept}
+use Rattle.rules.proofs.Numbers.{Among, told}
 use Rattle.rules.proofs.Arenas.{inside-iff}
 use Rattle.rules.proofs.Planned.{planned-exactly, planned-right, planned-long}
 use Rattle.checking.specs.Checking.{AllowedAt, Checking, refused, no-room, wrong, passed}
@@ -57,6 +58,25 @@ checked-exactly {b} (refused n) = (λ z. absurd (n z), λ t. absurd (n (kept b .
 checked-exactly (no-room e l) = (λ z. absurd (omega arith), λ t. absurd (omega (arith, t .1)))
 checked-exactly (wrong {s} {q} e l hs hq w f) = (λ z. absurd (omega arith), λ t. absurd (w (t .2 s q hs hq)))
 checked-exactly {b} (passed e l f) = (λ z. (kept b .0 e, l, f), λ t. refl)
+
+-- 16 names a place of the job, whose entry is not allowed; the job keeps the rules, and the plan is all there.
+pub record WrongAt (b p : List ℕ) (s q : ℕ) : Type 0 where
+  pub keeps : Keeps b
+  pub whole : room (said b) ≤ length p
+  pub state : s < said b .states
+  pub goal : q < said b .goals
+  pub not-allowed : AllowedAt b p s q → ⊥
+
+pub wrong-at : {b p : List ℕ} {f : Fault} {s q : ℕ} → Checking b p f s q → f .number ≡ 16 → WrongAt b p s q
+wrong-at {b} (refused n) z = absurd (job-not-16 (told b .among) z)
+  where
+    job-not-16 : {n : ℕ} → Among n → n ≡ 16 → ⊥
+    job-not-16 (inl h) e = omega arith
+    job-not-16 (inr (inl h)) e = omega arith
+    job-not-16 (inr (inr h)) e = omega arith
+wrong-at (no-room e l) z = absurd (omega arith)
+wrong-at {b} (wrong e l hs hq w f) z = record { keeps = kept b .0 e; whole = l; state = hs; goal = hq; not-allowed = w }
+wrong-at (passed e l f) z = absurd (omega arith)
 
 -- Our own plans always pass, and nothing else is answered of them.
 pub own-passes : {b before after : List ℕ} → Planning b before (only 0) after → Checking b after (only 0) 0 0

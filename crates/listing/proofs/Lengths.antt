@@ -8,7 +8,6 @@ use native.Mathlib.Nat.{mul-le-mul, suc-mul, le-refl, le-trans}
 use native.Mathlib.Omega.{arith}
 use borrow.Author.Tests.{ne-eqb}
 use lib.ListN.{length, take, drop, length-append}
-use lib.Seq.{length-take-le, take-append-seam}
 use Rattle.io.specs.Counts.{Counts}
 use Rattle.game.specs.Game.{Inside}
 use Rattle.game.specs.Below.{upto, each}
@@ -27,7 +26,7 @@ use Rattle.cabinet.proofs.Advising.{allowed-shaped}
 use Rattle.game.proofs.Following.{right-allowed}
 use Rattle.text.specs.Lines.{decimal, bytes, value-word, action-word, line-of, entry-line, start-line, names-record, refusal-line}
 use Rattle.text.proofs.Digits.{decimal-length}
-use Rattle.text.proofs.Putting.{put-whole}
+use Rattle.text.proofs.Lengths.{short-value, short-refusal, fault-few, put-front}
 use Rattle.listing.specs.Listing.{first-line, place-line, lines, Prints, refuses, lists}
 use Rattle.listing.specs.Told.{Printed}
 use Rattle.listing.proofs.Telling.{each-last}
@@ -67,11 +66,6 @@ module _ (A n : ℕ) (e : Entry) (a : A ≤ 16) (m : n ≤ 4096) where
       (or-iff (and-iff (eqb-iff (e .value) 2) blank-iff)
       (or-iff (and-iff (eqb-iff (e .value) 2) due-iff) (and-iff (eqb-iff (e .value) 1) due-iff))) .0 h)
 
-short-value : (v : ℕ) → length (value-word v) ≤ 7
-short-value zero = omega arith
-short-value (suc zero) = omega arith
-short-value (suc (suc v)) = omega arith
-
 -- ---- the lines
 
 short-entry : (s q : ℕ) (e : Entry) → s < 128 → q < 32 → Few e → length (entry-line s q (e .value) (e .action) (e .number)) ≤ 23
@@ -82,14 +76,6 @@ short-entry s q e hs hq f =
 short-start : (s q v : ℕ) → s < 128 → q < 32 → length (start-line s q v) ≤ 21
 short-start s q v hs hq =
     simp length-append (omega (arith, decimal-length s 2 (omega arith), decimal-length q 1 (omega arith), short-value v))
-
-short-refusal : (f : Fault) → f .number < 100 → f .«record» < 10000 → length (refusal-line f) ≤ 17
-short-refusal f h k = go (names-record f)
-  where
-    go : (x : Bool) → length (line-of (bytes "refused") (map decimal (f .number ∷ cond x (f .«record» ∷ []) []))) ≤ 17
-    go true =
-        simp length-append (omega (arith, decimal-length (f .number) 1 (omega arith), decimal-length (f .«record») 3 (omega arith)))
-    go false = simp length-append (omega (arith, decimal-length (f .number) 1 (omega arith)))
 
 short-each : (f : ℕ → List ℕ) (k n : ℕ) → ((i : ℕ) → i < n → length (f i) ≤ k) → length (each (upto n) f) ≤ n * k
 short-each f k zero h = omega arith
@@ -127,13 +113,6 @@ module _ {b before after : List ℕ} (done : Planning b before (only 0) after) w
       let (hs, hq) = inside-iff (said b) x .0 (start-inside b k) in
       short-start (x .state) (x .goal) (planned-entry (said b) after x .value) (omega (arith, k .few-states)) (omega (arith, k .few-goals))
 
-fault-few : (b : List ℕ) → Among (refusal b) → (refusal b < 100) × (fault b .«record» < 10000)
-fault-few b (inl h) = (
-  omega arith,
-  omega (arith, told b .no-record (λ (e : refusal b ≡ 12). omega arith) (λ (e : refusal b ≡ 13). omega arith)),
-)
-fault-few b (inr e) = (⊎-elim (λ (x : refusal b ≡ 12). omega arith) (λ (x : refusal b ≡ 13). omega arith) e, omega (arith, named-few b e))
-
 refusal-few : {b before after : List ℕ} {f : Fault} → Planning b before f after → (f .number < 100) × (f .«record» < 10000)
 refusal-few {b} (refused n) = fault-few b (told b .among)
 refusal-few (no-room e l) = (omega arith, omega arith)
@@ -149,12 +128,6 @@ prints-short {b} (lists {after} done) =
 -- So in a buffer of that length the first n bytes are the text.
 pub printed-whole : {b before out left : List ℕ} {n : ℕ} → Printed b before out left n → 94229 ≤ length out
     → Counts n left × Prints b before (take n left)
-printed-whole {b} {before} {out} {left} {n} p room =
-    let t = p .text in
-    let (bytes, next) = put-whole (omega (arith, prints-short (p .right))) (p .put) in
-    let rest = drop (0 + length t) out in
-    let is : left ≡ t ++ rest = bytes in
-    let count : n ≡ length t = omega (arith, next) in
-    let text : take n left ≡ t = ap (λ (k : ℕ). take k left) count ∙ ap (take (length t)) is ∙ take-append-seam t rest in
-    let few : n ≤ length left = omega (arith, ap length is, length-append t rest) in
-    ((few, sym (length-take-le n left few)), subst⁻¹ (Prints b before) text (p .right))
+printed-whole {b} {before} p room =
+    let (count, text) = put-front (p .put) (omega (arith, prints-short (p .right))) in
+    (count, subst⁻¹ (Prints b before) text (p .right))

@@ -57,7 +57,7 @@ module _ {b : List ℕ} (k : Keeps b) where
   abbrev G : Arena
   G = arena (said b)
 
-  right-small : {p : Place} → Inside G p → {x : Entry} → Right G p x → (d : ℕ) → entry-byte x d < 256
+  pub right-small : {p : Place} → Inside G p → {x : Entry} → Right G p x → (d : ℕ) → entry-byte x d < 256
   right-small i {x} (lost l) = small x (omega arith) (omega arith) (omega arith)
   right-small i {x} (met y) = small x (omega arith) (omega arith) (omega arith)
   right-small {p} i {x} (wins {a} {n} u w ((o, _), _)) =

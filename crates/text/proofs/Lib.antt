@@ -1,4 +1,5 @@
 -- The laws that belong to no one function.
 pub mod Putting
+pub mod Lengths
 pub mod Digits
 pub mod Examples

@@ -9,7 +9,7 @@ mod refusal;
 mod waves;
 
 pub use calls::Answer;
-pub use listing::{listing, TAKEN};
+pub use listing::{checked, listing, TAKEN};
 pub use plan::{entries, Entry, LOSING, PENDING, WINNING};
 pub use read::{read, Job};
 pub use refusal::*;

@@ -1,0 +1,2 @@
+-- What the program that checks a plan prints.
+pub mod Tells
