@@ -124,23 +124,28 @@ module _ (G : Arena) (L : Lawful G) (few : G .actions ≤ 255) where
   allowed-named (wins u w s) = inl (s .0)
   allowed-named (hopes h k s) = inl (s .0, s .1)
 
-  module _ (e : G .Place → Entry) (allowed : (p : G .Place) → Inside G p → Allowed G p (e p)) where
-    -- allowed entries can be followed, from every place inside
-    pub follow-follows : (h : Play (G .Place)) → Inside G (last h) → Follows G e (follow G e) h
-    unfolding follow
-    follow-follows h i o b n u = go (last (run G (follow G e) o h n)) (run-inside G L (follow G e) n h o i b)
-      where
-        Does : G .Place → Type 0
-        Does p = heed (e p .action) (G .leads p (e p .action)) ≡ cond (eqb (e p .action) 255) stop (act (e p .action))
+  -- entries that name open actions, or none, can be followed, from every place inside
+  pub follow-named : (e : G .Place → Entry) → ((p : G .Place) → Inside G p → Open G p (e p .action) ⊎ (e p .action ≡ 255))
+      → (h : Play (G .Place)) → Inside G (last h) → Follows G e (follow G e) h
+  unfolding follow
+  follow-named e named h i o b n u = go (last (run G (follow G e) o h n)) (run-inside G L (follow G e) n h o i b)
+    where
+      Does : G .Place → Type 0
+      Does p = heed (e p .action) (G .leads p (e p .action)) ≡ cond (eqb (e p .action) 255) stop (act (e p .action))
 
-        go : (p : G .Place) → Inside G p → Does p
-        go p j = by (allowed-named (allowed p j))
-          where
-            by : Open G p (e p .action) ⊎ (e p .action ≡ 255) → Does p
-            by (inl o) = rw (open-named o) (heed-act _ _ o)
-            by (inr q) =
-                rw (eq-eqb (e p .action) 255 q)
-                (heed-stop _ _ (λ t m. let c = L .counted p t (e p .action) m in omega arith))
+      go : (p : G .Place) → Inside G p → Does p
+      go p j = by (named p j)
+        where
+          by : Open G p (e p .action) ⊎ (e p .action ≡ 255) → Does p
+          by (inl o) = rw (open-named o) (heed-act _ _ o)
+          by (inr q) =
+              rw (eq-eqb (e p .action) 255 q)
+              (heed-stop _ _ (λ t m. let c = L .counted p t (e p .action) m in omega arith))
+
+  module _ (e : G .Place → Entry) (allowed : (p : G .Place) → Inside G p → Allowed G p (e p)) where
+    -- so allowed entries can
+    pub follow-follows : (h : Play (G .Place)) → Inside G (last h) → Follows G e (follow G e) h
+    follow-follows = follow-named e (λ p j. allowed-named (allowed p j))
 
     module _ (σ : Way G) where
       -- who follows from k on does as the entry of its last place says
@@ -165,7 +170,7 @@ module _ (G : Arena) (L : Lawful G) (few : G .actions ≤ 255) where
           )
 
       -- where it is hoped for: some outcome of the action taken is nearer
-      plan-toward : (k : Play (G .Place)) (n : ℕ) → Stands k → Least (λ m. hoped G m (last k) ≡ true) (suc n)
+      pub plan-toward : (k : Play (G .Place)) (n : ℕ) → Stands k → Least (λ m. hoped G m (last k) ≡ true) (suc n)
           → (a : ℕ) × (t : G .Place) × (σ .choose k ≡ act a) × Listed G (last k) a t × Stands (then k a t) × (hoped G n t ≡ true)
       plan-toward k n (f, j) l =
           let p = pending-at G L (last k) j n l in

@@ -12,3 +12,6 @@ pub mod Bounds
 pub mod Following
 pub mod Visiting
 pub mod Demands
+pub mod Facing
+pub mod Undominated
+pub mod Lazy

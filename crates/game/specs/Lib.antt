@@ -4,3 +4,4 @@ pub mod Game
 pub mod Allowed
 pub mod Demands
 pub mod Visits
+pub mod Behaviour
