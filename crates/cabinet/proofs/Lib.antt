@@ -13,3 +13,4 @@ pub mod Slips
 pub mod Checking
 pub mod Looping
 pub mod Playing
+pub mod Effort
