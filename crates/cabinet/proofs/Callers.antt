@@ -69,18 +69,22 @@ module _ (b : List ℕ) (c : Caller) where
         unmet = λ m l x. e (subst (λ (k : Play MovedFigures). last k .refusal ≡ 0) (refused-ends b c m o h e) (x .0));
       }
 
+-- the way of choosing of who would take what f says, where it leads somewhere
+unfoldable pub open-way : (b : List ℕ) → (Play Place → Choice) → Way (arena (said b))
+open-way b f =
+    record {
+      choose = λ k. if-open (arena (said b) .leads (last k)) (f k);
+      legal = λ k a e. go (arena (said b) .leads (last k)) (f k) a e;
+    }
+  where
+    go : (f : ℕ → List Place) (d : Choice) (a : ℕ) → if-open f d ≡ act a → (t : Place) × List·Memᴰ t (f a)
+    go f stop a e = let z : _≡_ {A = ℕ} 0 1 = cc in absurd (omega arith)
+    go f (act x) a e = heed-open f x a e
+
 module _ (b : List ℕ) (keeps : Keeps b) (c : Caller) (h : Play MovedFigures) where
   -- the way of choosing of a caller who has seen h
   unfoldable pub way-of : Way (arena (said b))
-  way-of =
-      record {
-        choose = λ k. if-open (arena (said b) .leads (last k)) (c (shown b h k));
-        legal = λ k a e. go (arena (said b) .leads (last k)) (c (shown b h k)) a e;
-      }
-    where
-      go : (f : ℕ → List Place) (d : Choice) (a : ℕ) → if-open f d ≡ act a → (t : Place) × List·Memᴰ t (f a)
-      go f stop a e = let z : _≡_ {A = ℕ} 0 1 = cc in absurd (omega arith)
-      go f (act x) a e = heed-open f x a e
+  way-of = open-way b (λ k. c (shown b h k))
 
   abbrev G : Arena
   G = arena (said b)
@@ -88,7 +92,7 @@ module _ (b : List ℕ) (keeps : Keeps b) (c : Caller) (h : Play MovedFigures) w
   -- what keeps the goal unmet in the game keeps it unmet for the caller
   spared : (n : ℕ) (k : Play Place) (o : ℕ → Place) → Stands b (last (shown b h k)) → at (last (shown b h k)) ≡ last k → Obeys G way-of o k
       → ((m : ℕ) → m < n → Unmet G (last (run G way-of o k m))) → Spared b c (λ i. o i .state) (shown b h k) n
-  unfolding way-of
+  unfolding way-of open-way
   spared zero k o s q y u = none-yet b c (λ i. o i .state) (shown b h k)
   spared (suc n) k o s q y u = go (c (shown b h k)) refl (λ k. spared n k (λ i. o (suc i)))
     where

@@ -14,3 +14,4 @@ pub mod Checking
 pub mod Looping
 pub mod Playing
 pub mod Effort
+pub mod Behaving

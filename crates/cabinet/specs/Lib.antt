@@ -2,3 +2,4 @@
 pub mod Figures
 pub mod Checks
 pub mod Playing
+pub mod Behaving
