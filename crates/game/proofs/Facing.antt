@@ -1,10 +1,11 @@
 -- One move after another against a behaviour: it is a run with outcomes that are listed.
 use Prim.Native.Nat.{ℕ, zero, suc}
-use mathlib.Core.Path.{_≡_, refl, sym, subst}
+use mathlib.Core.Bool.{Bool, true, false}
+use mathlib.Core.Path.{_≡_, refl, sym, ap, _∙_, subst}
 use Rattle.game.specs.Game.{Arena, Play, then, last, act, Unmet, Way, advance, run, Obeys, Follows}
 use Rattle.game.specs.Behaviour.{Behaviour, reply, against, Meets}
 use Rattle.game.specs.declared.entry.Entry.{Entry}
-use Rattle.game.proofs.Plays.{met-stays}
+use Rattle.game.proofs.Plays.{some-obeys, met-stays}
 use Rattle.game.proofs.Following.{follows-on}
 
 module _ (G : Arena) (σ : Way G) (b : Behaviour G) where
@@ -51,3 +52,21 @@ module _ (G : Arena) (σ : Way G) (b : Behaviour G) where
   meets-late h (suc j) (zero, e) =
       meets-late (advance G σ h (reply G b (σ .choose h) h)) j (zero, rw (met-stays G σ h e (reply G b (σ .choose h) h)) e)
   meets-late h (suc j) (suc n, e) = meets-late (advance G σ h (reply G b (σ .choose h) h)) j (n, e)
+
+-- Two ways that follow the same entries make the same play against each behaviour, whatever they would do elsewhere.
+pub follows-alike : (G : Arena) (e : G .Place → Entry) (σ ρ : Way G) (b : Behaviour G) (n : ℕ) (h : Play (G .Place)) → Follows G e σ h
+    → Follows G e ρ h → against G σ b h n ≡ against G ρ b h n
+follows-alike G e σ ρ b zero h f g = refl
+follows-alike G e σ ρ b (suc n) h f g =
+    let s : advance G σ h (reply G b (σ .choose h) h) ≡ advance G ρ h (reply G b (ρ .choose h) h) = go (G .accepted (last h)) refl in
+    ap (λ (k : Play (G .Place)). against G σ b k n) s
+    ∙ follows-alike G e σ ρ b n (advance G ρ h (reply G b (ρ .choose h) h))
+    (subst (Follows G e σ) s (against-follows G σ b e h f 1)) (against-follows G ρ b e h g 1)
+  where
+    go : (x : Bool) → G .accepted (last h) ≡ x → advance G σ h (reply G b (σ .choose h) h) ≡ advance G ρ h (reply G b (ρ .choose h) h)
+    go true y = rw y
+    go false u =
+        let (o, y) = some-obeys G σ h in
+        let (o′, y′) = some-obeys G ρ h in
+        let c : σ .choose h ≡ ρ .choose h = f o y 0 u ∙ sym (g o′ y′ 0 u) in
+        rw c
