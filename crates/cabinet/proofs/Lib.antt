@@ -14,4 +14,5 @@ pub mod Checking
 pub mod Looping
 pub mod Playing
 pub mod Effort
+pub mod Plate
 pub mod Behaving
