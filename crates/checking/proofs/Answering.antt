@@ -34,10 +34,9 @@ module _ {b : List ℕ} {l : Layout} (t : Fit b l) (p : List ℕ) where
   checks-room h = no-room (kept b .1 (t .keeps)) (let n = places-said t in omega arith)
 
   -- a job that was read is planned where there is room
-  pub never-refused : {own own′ : List ℕ} (r : Refusal) → Planning b own (refusal-fault r) own′ → length own ≡ 4 * set-room → ⊥
+  pub never-refused : {own own′ : List ℕ} (r : Refusal) → Planning b own (refusal-fault r) own′ → 4 * (l .states * l .goals) ≤ length own → ⊥
   never-refused r d long =
       let n = places-said t in
-      let h = few-places t in
       let z = planned-exactly d .1 (t .keeps, omega arith) in
       let m = refusal-some r in
       let e : suc (m .0) ≡ 0 = sym (m .1) ∙ z in

@@ -22,7 +22,7 @@ use Rattle.rules.specs.declared.answer.Refusal.{Refusal}
 use Rattle.rules.proofs.Arenas.{inside-iff, arena-lawful}
 use Rattle.rules.proofs.Existing.{right-small}
 use Rattle.rules.proofs.Figures.{refusal-of, refusal-back, refusal-some}
-use Rattle.rules.proofs.Kept.{kept}
+use Rattle.rules.proofs.Kept.{states-few, kept}
 use Rattle.rules.proofs.Numbers.{told}
 use Rattle.rules.proofs.Planned.{planned-right}
 use Rattle.job.specs.Layout.{Fit}
@@ -99,7 +99,7 @@ tells-short {b} {p} byte (wrong {s} {q} {r} c d) =
     let e = planned-entry (said b) p (place s q) in
     let at = 4 * (s * said b .goals + q) in
     let small = right-small k i d in
-    short-wrong (decimal s) (decimal q) (said-text e) (said-text r) (decimal-length s 2 (omega (arith, w .state, k .few-states)))
+    short-wrong (decimal s) (decimal q) (said-text e) (said-text r) (decimal-length s 2 (omega (arith, w .state, states-few k)))
     (decimal-length q 1 (omega (arith, w .goal, k .few-goals)))
     (short-said e (byte at) (byte (at + 1)) (omega (arith, byte (at + 2), byte (at + 2 + 1))))
     (short-said r (small 0) (small 1) (omega (arith, small 2, small 3)))

@@ -8,7 +8,7 @@ use native.Mathlib.Omega.{arith}
 use lib.Arith.{digits-lt}
 use Rattle.game.specs.Game.{Inside, Lawful}
 use Rattle.rules.specs.Job.{is-record, entered, start, places, arena}
-use Rattle.rules.specs.Bytes.{said}
+use Rattle.rules.specs.Bytes.{is-tall, said}
 use Rattle.rules.proofs.Kept as kept
 use Rattle.rules.proofs.Arenas as arenas
 use Rattle.job.specs.Layout.{Fit}
@@ -36,6 +36,9 @@ module _ {b : List ℕ} {l : Layout} (f : Fit b l) where
   pub first-goal-said : l .«first_goal» ≡ said b .first-goal
   first-goal-said = rw (f .is-layout)
 
+  pub tall-said : l .tall ≡ is-tall b
+  tall-said = rw (f .is-layout)
+
   pub records-said : l .records ≡ said b .records
   records-said = rw (f .is-layout)
 
@@ -50,8 +53,8 @@ module _ {b : List ℕ} {l : Layout} (f : Fit b l) where
   pub some-states : 1 ≤ l .states
   some-states = rw states-said (f .keeps .some-states)
 
-  pub few-states : l .states ≤ 128
-  few-states = rw states-said (f .keeps .few-states)
+  pub few-states : l .states ≤ 512
+  few-states = rw states-said (kept.states-few (f .keeps))
 
   pub some-actions : 1 ≤ l .actions
   some-actions = rw actions-said (f .keeps .some-actions)
@@ -68,8 +71,8 @@ module _ {b : List ℕ} {l : Layout} (f : Fit b l) where
   pub few-goals : l .goals ≤ 32
   few-goals = rw goals-said (f .keeps .few-goals)
 
-  pub few-records : l .records ≤ 4096
-  few-records = rw records-said (f .keeps .few-records)
+  pub few-records : l .records ≤ 8192
+  few-records = rw records-said (kept.records-few (f .keeps))
 
   pub few-places : l .states * l .goals ≤ set-room
   few-places = mul-le-mul few-states few-goals

@@ -10,12 +10,14 @@ use lib.ListN.{length, getD}
 use lib.Pow.{mod-mod-pow}
 use Rattle.sets.specs.Sets.{bit}
 use Rattle.rules.specs.Job.{entered}
-use Rattle.rules.specs.Bytes.{byte, record-at, said}
+use Rattle.rules.specs.Form.{form-of}
+use Rattle.rules.specs.Bytes.{byte, said}
 use Rattle.rules.specs.declared.place.Move.{Move}
 use Rattle.rules.proofs.Kept as kept
 use Rattle.job.specs.Layout.{Fit}
 use Rattle.job.specs.declared.layout.Layout.{Layout}
-use Rattle.job.proofs.Asking.{states-said, goals-said, records-said}
+use Rattle.job.proofs.Asking.{states-said, goals-said}
+use Rattle.job.proofs.Laying.{record-inside}
 
 -- the part of n below the mark, where it is below 2^p, is the part of n below 2^p
 mod-below : (n : ℕ) {p : ℕ} → p ≤ 6 → n % 128 < 2 ^ p → n % 2 ^ p ≡ n % 128
@@ -53,8 +55,10 @@ module _ {b : List ℕ} {l : Layout} (f : Fit b l) where
     pub mark-value : {r : ℕ} → r ≡ getD b (l .«goal_at» + (l .goals * w + q)) 0 → eqb r 1 ≡ said b .final q
     mark-value y = let z = rw (e, f .is-layout) at y in rw z
 
-  pub move-inside : {k : ℕ} → k < l .records → l .«moves_at» + 3 * k + 3 ≤ length b
-  move-inside h = rw (f .is-layout) (omega (arith, kept.moves-end (f .keeps), records-said f))
+  pub move-inside : {k : ℕ} → k < l .records
+      → l .«moves_at» + form-of (l .tall) .record-size * k + form-of (l .tall) .record-size ≤ length b
+  move-inside h = record-inside (l .tall) (l .«moves_at») h (rw (f .is-layout) (kept.moves-end (f .keeps)))
 
-  pub move-value : (k : ℕ) {m : Move} → m ≡ record-at b (l .«moves_at» + 3 * k) → m ≡ said b .move k
+  pub move-value : (k : ℕ) {m : Move}
+      → m ≡ form-of (l .tall) .record-at b (l .«moves_at» + form-of (l .tall) .record-size * k) → m ≡ said b .move k
   move-value k e = rw (f .is-layout) at e

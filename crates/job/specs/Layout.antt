@@ -6,7 +6,8 @@ use mathlib.Core.Path.{_≡_}
 use lib.Dec.{ltb}
 use lib.ListN.{length}
 use Rattle.rules.specs.Fault.{Fault}
-use Rattle.rules.specs.Bytes.{offset, said, contents, in-range, within, judged}
+use Rattle.rules.specs.Form.{form-of}
+use Rattle.rules.specs.Bytes.{offset, is-tall, said, contents, in-range, within, judged}
 use Rattle.rules.specs.Keeps.{Keeps}
 use Rattle.rules.specs.declared.place.Move.{Move}
 use Rattle.job.specs.Joined.{joined}
@@ -25,11 +26,13 @@ layout b =
       «labels_at» = offset b 1;
       «moves_at» = offset b 2;
       «goal_at» = offset b 3;
+      tall = is-tall b;
     }
 
 -- every count and first number of the layout is in its range
 abbrev pub in-ranges : Layout → Bool
-in-ranges l = in-range (l .states) (l .actions) (l .propositions) (l .goals) (l .first) (l .«first_goal»)
+in-ranges l =
+    in-range (form-of (l .tall) .most-states) (l .states) (l .actions) (l .propositions) (l .goals) (l .first) (l .«first_goal»)
 
 -- what is wrong with record k, which is m, where last is the one before it, joined, or 0
 abbrev pub fault-after : Layout → ℕ → ℕ → Move → Fault

@@ -1,6 +1,6 @@
 -- What judging and reading answer: the number for each case with its record, and the layout where it is 0.
 use Prim.Native.Nat.{ℕ}
-use mathlib.Core.Bool.{cond, not}
+use mathlib.Core.Bool.{false, cond, not}
 use mathlib.Core.List.{List}
 use lib.Dec.{eqb}
 use Rattle.rules.specs.Fault.{Fault, only}
@@ -29,6 +29,7 @@ no-layout =
       «labels_at» = 0;
       «moves_at» = 0;
       «goal_at» = 0;
+      tall = false;
     }
 
 pub record ReadingFigures : Type 0 where

@@ -6,20 +6,23 @@ ghost use lib.ListN.{length};
 ghost use Rattle.rules.specs.Bytes.{said, contents, labels, within, whole, records-fault, goal};
 ghost use Rattle.job.specs.Layout.{layout, Laid, in-ranges, fault-after};
 ghost use Rattle.job.specs.Reading.{verdict-fault, reading, reading-figures};
-use crate::body::byte_at;
 use crate::body::bytes_below;
 use crate::body::join;
 use crate::body::labels_below;
 use crate::body::labels_of;
-use crate::body::record_at;
 use crate::body::word_at;
+use crate::form::counts_at;
+use crate::form::most_moves;
+use crate::form::most_states;
+use crate::form::nth_record;
+use crate::form::record_size;
 use crate::layout::Layout;
 use crate::layout::Reading;
 use crate::layout::Verdict;
 use rules::answer::Refusal;
 use rules::place::Move;
 
-// Whether the bodies follow one another from 16 on to the job's end, and Counts is 6 long.
+// Whether the bodies follow one another from 16 on to the job's end, and Counts is 6 or 8 long.
 fn contents_fit(job: &[u8]) -> bool
     requires { ⌜ 16 ≤ length (now job) ⌝ }
     ensures { λ r. ⌜ r ≡ contents (now (job .entry)) ⌝ }
@@ -44,28 +47,34 @@ fn contents_fit(job: &[u8]) -> bool
     if job.len() != goal_at + word_at(job, 14) {
         return false;
     }
-    counts_long == 6
+    if counts_long == 6 {
+        return true;
+    }
+    counts_long == 8
 }
 
-// Where the bodies lie and what the counts are.
+// Where the bodies lie, what the counts are, and which form it is.
 fn layout_of(job: &[u8]) -> Layout
     requires { ⌜ 16 ≤ length (now job) ⌝ }
     requires { ⌜ contents (now job) ≡ true ⌝ }
     ensures { λ r. ⌜ r ≡ layout (now (job .entry)) ⌝ }
 {
+    let tall = word_at(job, 2) == 8;
+    let c = counts_at(job, tall, 16);
     let moves_at = word_at(job, 8);
     let goal_at = word_at(job, 12);
     Layout {
-        states: byte_at(job, 16),
-        actions: job[17],
-        propositions: job[18],
-        goals: byte_at(job, 19),
-        first: byte_at(job, 20),
-        first_goal: byte_at(job, 21),
-        records: (goal_at - moves_at) / 3,
+        states: c.states,
+        actions: c.actions,
+        propositions: c.propositions,
+        goals: c.goals,
+        first: c.first,
+        first_goal: c.first_goal,
+        records: (goal_at - moves_at) / record_size(tall),
         labels_at: word_at(job, 4),
         moves_at,
         goal_at,
+        tall,
     }
 }
 
@@ -76,7 +85,7 @@ fn counts_fit(l: Layout) -> bool
     if l.states < 1 {
         return false;
     }
-    if 128 < l.states {
+    if most_states(l.tall) < l.states {
         return false;
     }
     if l.actions < 1 {
@@ -145,11 +154,10 @@ fn judge_records(job: &[u8], l: Layout) -> Verdict
     ensures { λ r. ⌜ verdict-fault r ≡ records-fault (said (now (job .entry))) (l .records) ⌝ }
 {
     let n = l.records;
-    let at = l.moves_at;
     let mut last: u64 = 0;
     let mut k: usize = 0;
     while k < n {
-        let m = record_at(job, at + 3 * k);
+        let m = nth_record(job, l.tall, l.moves_at, k);
         match judge_record(l, k, last, m) {
             Verdict::Bad(why) => return Verdict::Bad(why),
             Verdict::Good => {
@@ -167,10 +175,10 @@ fn moves_whole(job: &[u8], l: Layout) -> bool
     ensures { λ r. ⌜ r ≡ whole (now (job .entry)) ⌝ }
 {
     let size = l.goal_at - l.moves_at;
-    if size % 3 != 0 {
+    if size % record_size(l.tall) != 0 {
         return false;
     }
-    size <= 12288
+    size <= most_moves(l.tall)
 }
 
 // Whether Goal has its length, each next goal state is one, and each mark is 0 or 1.

@@ -8,7 +8,7 @@ ghost use Rattle.job.specs.Found.{FoundOf, triple, Parted};
 use crate::body::BUSY;
 use crate::body::byte_at;
 use crate::body::labels_of;
-use crate::body::record_at;
+use crate::form::nth_record;
 use crate::layout::Layout;
 use rules::place::Move;
 use rules::place::Place;
@@ -86,7 +86,7 @@ pub fn move_at(job: &[u8], l: Layout, k: usize) -> Move
     requires { ⌜ k < l .records ⌝ }
     ensures { λ r. ⌜ r ≡ said (now (job .entry)) .move k ⌝ }
 {
-    record_at(job, l.moves_at + 3 * k)
+    nth_record(job, l.tall, l.moves_at, k)
 }
 
 // What looking for a record answers: its number, or that there is none.

@@ -1,21 +1,15 @@
-// The bytes of a body: a number of two bytes, a record, and bytes that all lie below a limit.
+// The bytes of a body: a number of two bytes, a record that is joined, and bytes that all lie below a limit.
 ghost use mathlib.Core.Path.{_≡_};
 ghost use Prim.Native.Nat.{_+_, _*_, _%_, _^_, _≤_, _<_};
 ghost use lib.Dec.{ltb};
 ghost use lib.ListN.{length, getD};
 ghost use Rattle.game.specs.Below.{every-below};
-ghost use Rattle.rules.specs.Bytes.{word, record-at};
+ghost use Rattle.rules.specs.Form.{word};
 ghost use Rattle.job.specs.Joined.{joined};
 use rules::place::Move;
 
 // The bit of a label's byte that marks its state as busy. The label is below it.
 pub const BUSY: u8 = 7;
-
-fn wide(x: u8) -> u16
-    ensures { λ r. ⌜ r ≡ x ⌝ }
-{
-    x as u16
-}
 
 // The byte at a place of the job.
 pub fn byte_at(job: &[u8], at: usize) -> usize
@@ -31,18 +25,6 @@ pub fn word_at(job: &[u8], at: usize) -> usize
     ensures { λ r. ⌜ r ≡ word (now (job .entry)) at ⌝ }
 {
     byte_at(job, at) + 256 * byte_at(job, at + 1)
-}
-
-// The record at a place of the job.
-pub fn record_at(job: &[u8], at: usize) -> Move
-    requires { ⌜ at + 3 ≤ length (now job) ⌝ }
-    ensures { λ r. ⌜ r ≡ record-at (now (job .entry)) at ⌝ }
-{
-    Move {
-        state: wide(job[at]),
-        action: job[at + 1],
-        outcome: wide(job[at + 2]),
-    }
 }
 
 // A record's three fields joined into one number, above 0.

@@ -1,4 +1,4 @@
-// Where a job's bodies lie and what its counts are, and the answers of judging its records and of reading it.
+// Where a job's bodies lie, what its counts are and which form it has, and the answers of judging its records and of reading it.
 use rules::answer::Refusal;
 
 pub struct Layout {
@@ -12,6 +12,7 @@ pub struct Layout {
     pub labels_at: usize,
     pub moves_at: usize,
     pub goal_at: usize,
+    pub tall: bool,
 }
 
 // What judging records answers: all are good, or what is wrong with the first bad one.

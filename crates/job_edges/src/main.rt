@@ -51,9 +51,9 @@ fn answer_to(words: &[u8]) -> Answer {
     if words.len() == 0 {
         return Answer::BadLine;
     }
-    let mut job = [0u8; 16384];
+    let mut job = [0u8; 49152];
     let n = make(&mut job, words);
-    if n > 16384 {
+    if n > 49152 {
         return Answer::BadLine;
     }
     read_job(&job[0..n])
@@ -101,10 +101,10 @@ fn lines(text: &[u8]) {
 
 // Where the text has no room left, lines may have been lost.
 fn main() {
-    let mut text = [0u8; 8192];
+    let mut text = [0u8; 16384];
     let n = io::read_full(libc::STDIN_FILENO, &mut text);
     lines(&text[..n]);
-    if n == 8192 {
+    if n == 16384 {
         say(Answer::BadLine);
     }
 }

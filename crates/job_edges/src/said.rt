@@ -2,6 +2,9 @@
 use crate::bytes::bare;
 use crate::bytes::plate;
 use crate::bytes::record;
+use crate::bytes::tall_bare;
+use crate::bytes::tall_plate;
+use crate::bytes::tall_record;
 ghost use Prim.Native.Nat.{_<_};
 
 // A number with no digits. No job is so long, so a line that is at fault makes its job this long.
@@ -67,7 +70,7 @@ impl Said {
         let sign = self.sign;
         let n = self.number;
         match sign {
-            b'*' | b'P' | b'B' | b'Z' => n,
+            b'*' | b'P' | b'B' | b'Z' | b'+' | b'p' | b'b' => n,
             b' ' => {
                 if n == 0 {
                     return 0;
@@ -92,6 +95,9 @@ impl Said {
             b'*' => record(k),
             b'P' => plate(k),
             b'B' => bare(k),
+            b'+' => tall_record(k),
+            b'p' => tall_plate(k),
+            b'b' => tall_bare(k),
             _ => 0,
         }
     }

@@ -2,7 +2,6 @@
 use Prim.Native.Nat.{ℕ, _≤_}
 use mathlib.Core.List.{List}
 use mathlib.Core.Path.{_≡_, refl, ap}
-use native.Mathlib.Nat.{mul-le-mul}
 use native.Mathlib.Omega.{arith}
 use lib.ListN.{length}
 use Rattle.rules.specs.Fault.{Fault, only}
@@ -10,7 +9,7 @@ use Rattle.rules.specs.Bytes.{fault, refusal, said}
 use Rattle.rules.specs.Keeps.{Keeps}
 use Rattle.rules.specs.Plan.{room}
 use Rattle.rules.specs.Calls.{Planning, refused, no-room, overrun, planned}
-use Rattle.rules.proofs.Kept.{kept}
+use Rattle.rules.proofs.Kept.{kept, places-few}
 use Rattle.rules.proofs.Unique.{planning-unique, no-overrun}
 use Rattle.text.specs.Lines.{refusal-line}
 use Rattle.listing.specs.Listing.{listing, Prints, refuses, lists}
@@ -23,12 +22,12 @@ prints-unique (refuses p z) (lists d) = absurd (z (ap (λ (f : Fault). f .number
 prints-unique (lists d) (refuses p z) = absurd (z (ap (λ (f : Fault). f .number) (planning-unique p d .0)))
 prints-unique {b} (lists d) (lists d′) = ap (listing (said b)) (planning-unique d d′ .1)
 
--- A job that keeps the rules always has room in a plan of 16,384 bytes.
-has-room : {b : List ℕ} → Keeps b → room (said b) ≤ 16384
-has-room k = let few = mul-le-mul (k .few-states) (k .few-goals) in omega (arith, few)
+-- A job that keeps the rules always has room in a plan of 65,536 bytes.
+has-room : {b : List ℕ} → Keeps b → room (said b) ≤ 65536
+has-room k = omega (arith, places-few k)
 
 -- With such a buffer, which the program has: a job that keeps the rules is listed by its plan,
-pub prints-plan : {b before text : List ℕ} → Keeps b → 16384 ≤ length before → Prints b before text
+pub prints-plan : {b before text : List ℕ} → Keeps b → 65536 ≤ length before → Prints b before text
     → (after : List ℕ) × Planning b before (only 0) after × (text ≡ listing (said b) after)
 prints-plan {b} k h (refuses (refused n) z) = absurd (n (kept b .1 k))
 prints-plan k h (refuses (no-room e l) z) = absurd (omega (arith, has-room k))

@@ -12,8 +12,8 @@ use job::layout::Reading;
 use rules::answer::Advised;
 use rules::answer::Planned;
 
-// The longest text: 4,096 lines of at most 23 bytes, and the first of at most 21.
-const ROOM: usize = 94229;
+// The longest text: 16,384 lines of at most 24 bytes, and the first of at most 21.
+const ROOM: usize = 393237;
 
 // The first line, of the starting place p.
 fn list_first(out: &mut [u8], at: usize, job: &[u8], plan: &[u8], p: Place) -> usize
@@ -130,15 +130,15 @@ fn list_whole(out: &mut [u8; ROOM], job: &[u8], plan: &mut [u8]) -> usize
 
 // Writes the text that is to be printed of the job: what is handed over here is what the listing prints.
 fn print(job: &[u8], text: &[u8])
-    requires { ⌜ Prints (now job) (replicate 16384 0) (now text) ⌝ }
+    requires { ⌜ Prints (now job) (replicate 65536 0) (now text) ⌝ }
 {
     io::write_all(libc::STDOUT_FILENO, text);
 }
 
 fn main() {
-    let mut job = [0u8; 16384];
+    let mut job = [0u8; 49152];
     let n = io::read_full(libc::STDIN_FILENO, &mut job);
-    let mut plan = [0u8; 16384];
+    let mut plan = [0u8; 65536];
     let mut out = [0u8; ROOM];
     let k = list_whole(&mut out, &job[..n], &mut plan);
     print(&job[..n], &out[..k]);

@@ -9,7 +9,7 @@ use native.Mathlib.Nat.{add-zero}
 use borrow.Author.Tests.{eq-eqb, ne-eqb}
 use lib.ListN.{length, getD, set, length-set}
 use lib.Seq.{getD-set-same, getD-set-other, ext-getD}
-use Rattle.rules.specs.Bytes.{word}
+use Rattle.rules.specs.Form.{word}
 use Rattle.rules.specs.Plan.{entry, entry-byte, Wrote, blank, due, shaped}
 use Rattle.game.specs.declared.entry.Entry.{Entry}
 use Rattle.sets.proofs.Bits.{same-or}

@@ -9,13 +9,14 @@ use lib.Dec.{leb, ltb}
 use lib.ListN.{length}
 use lib.Pow.{pow-pos}
 use Rattle.rules.specs.Job.{Job}
-use Rattle.rules.specs.Bytes.{offset, size, end, byte, width, rows, mark, said}
+use Rattle.rules.specs.Bytes.{offset, size, end, byte, is-tall, form, width, rows, mark, said}
 use Rattle.rules.specs.Bytes.{contents, in-range, counts, labels, within, whole, goal}
 use Rattle.rules.specs.Keeps.{Before}
 use Rattle.rules.specs.BadRecord.{FieldsFit, OrderFits}
 use Rattle.rules.specs.declared.place.Move.{Move}
 use Rattle.rules.proofs.Rows.{rows-iff}
-use Rattle.game.proofs.Tests.{and-iff, ltb-iff, leb-iff, eqb-iff, every-iff, all-and, last-or-below}
+use Rattle.rules.proofs.Forms.{whole-records}
+use Rattle.game.proofs.Tests.{and-iff, or-iff, ltb-iff, leb-iff, eqb-iff, every-iff, all-and, last-or-below}
 use Rattle.rules.proofs.Order.{before-trans}
 
 pub contents-iff : (b : List ℕ) → (contents b ≡ true)
@@ -23,30 +24,32 @@ pub contents-iff : (b : List ℕ) → (contents b ≡ true)
     × ((offset b 1 ≡ end b 0)
     × ((offset b 2 ≡ end b 1)
     × ((offset b 3 ≡ end b 2)
-    × ((length b ≡ end b 3) × (size b 0 ≡ 6))))))
+    × ((length b ≡ end b 3) × ((size b 0 ≡ 6) ⊎ (size b 0 ≡ 8)))))))
 contents-iff b =
     and-iff (eqb-iff (offset b 0) 16)
     (and-iff (eqb-iff (offset b 1) (end b 0))
     (and-iff (eqb-iff (offset b 2) (end b 1))
     (and-iff (eqb-iff (offset b 3) (end b 2))
-    (and-iff (eqb-iff (length b) (end b 3)) (eqb-iff (size b 0) 6)))))
+    (and-iff (eqb-iff (length b) (end b 3)) (or-iff (eqb-iff (size b 0) 6) (eqb-iff (size b 0) 8))))))
 
--- S, A, P and Q, and the first state f and first goal state g, each in its range
-abbrev pub InRange : ℕ → ℕ → ℕ → ℕ → ℕ → ℕ → Type 0
-InRange s a p q f g =
-    (1 ≤ s) × ((s ≤ 128) × ((1 ≤ a) × ((a ≤ 16) × ((p ≤ 6) × ((1 ≤ q) × ((q ≤ 32) × ((f < s) × (g < q))))))))
+-- S, A, P and Q, and the first state f and first goal state g, each in its range, where there may be so many states
+abbrev pub InRange : ℕ → ℕ → ℕ → ℕ → ℕ → ℕ → ℕ → Type 0
+InRange most s a p q f g =
+    (1 ≤ s) × ((s ≤ most) × ((1 ≤ a) × ((a ≤ 16) × ((p ≤ 6) × ((1 ≤ q) × ((q ≤ 32) × ((f < s) × (g < q))))))))
 
-pub range-iff : (s a p q f g : ℕ) → (in-range s a p q f g ≡ true) ↔ InRange s a p q f g
-range-iff s a p q f g =
+pub range-iff : (most s a p q f g : ℕ) → (in-range most s a p q f g ≡ true) ↔ InRange most s a p q f g
+range-iff most s a p q f g =
     and-iff (leb-iff 1 s)
-    (and-iff (leb-iff s 128)
+    (and-iff (leb-iff s most)
     (and-iff (leb-iff 1 a)
     (and-iff (leb-iff a 16)
     (and-iff (leb-iff p 6) (and-iff (leb-iff 1 q) (and-iff (leb-iff q 32) (and-iff (ltb-iff f s) (ltb-iff g q))))))))
 
-pub counts-iff : (j : Job) → (counts j ≡ true)
-    ↔ InRange (j .states) (j .actions) (j .propositions) (j .goals) (j .first) (j .first-goal)
-counts-iff j = range-iff (j .states) (j .actions) (j .propositions) (j .goals) (j .first) (j .first-goal)
+pub counts-iff : (b : List ℕ) → let j = said b in (counts b ≡ true)
+    ↔ InRange (form b .most-states) (j .states) (j .actions) (j .propositions) (j .goals) (j .first) (j .first-goal)
+counts-iff b =
+    let j = said b in
+    range-iff (form b .most-states) (j .states) (j .actions) (j .propositions) (j .goals) (j .first) (j .first-goal)
 
 pub labels-iff : (b : List ℕ) → (labels b ≡ true)
     ↔ ((size b 1 ≡ said b .states) × ((s : ℕ) → s < said b .states → said b .label s < width b))
@@ -77,10 +80,12 @@ pub records-iff : (j : Job) → ((k : ℕ) → k < j .records → FieldsFit j k 
     ↔ (((k : ℕ) → k < j .records → FieldsFit j k) × ((k m : ℕ) → k < m → m < j .records → Before (j .move k) (j .move m)))
 records-iff j = Iff·trans (all-and (j .records)) (Iff·and Iff·rfl (ascending-iff j))
 
-pub whole-iff : (b : List ℕ) → (whole b ≡ true) ↔ ((size b 2 ≡ 3 * said b .records) × (said b .records ≤ 4096))
+pub whole-iff : (b : List ℕ) → (whole b ≡ true)
+    ↔ ((size b 2 ≡ form b .record-size * said b .records) × (said b .records ≤ form b .most-records))
 whole-iff b =
-    let tests = and-iff (eqb-iff (size b 2 % 3) 0) (leb-iff (size b 2) 12288) in
-    (λ e. let t = tests .0 e in (omega arith, omega arith), λ t. tests .1 (omega arith, omega arith))
+    let f = form b in
+    Iff·trans (and-iff (eqb-iff (size b 2 % f .record-size) 0) (leb-iff (size b 2) (f .record-size * f .most-records)))
+    (whole-records (is-tall b) (size b 2))
 
 pub goal-iff : (b : List ℕ) → let j = said b in (goal b ≡ true)
     ↔ ((size b 3 ≡ j .goals * width b + j .goals) × (((q l : ℕ) → q < j .goals → l < width b → j .next q l < j .goals)
@@ -88,6 +93,6 @@ pub goal-iff : (b : List ℕ) → let j = said b in (goal b ≡ true)
 goal-iff b =
     let n = said b .goals in
     let flat = every-iff (λ i. ltb (byte b 3 i) n) (λ i. ltb-iff (byte b 3 i) n) (rows b) in
-    let grid = rows-iff (λ i. byte b 3 i < n) n (width b) (pow-pos (byte b 0 2)) in
+    let grid = rows-iff (λ i. byte b 3 i < n) n (width b) (pow-pos (said b .propositions)) in
     and-iff (eqb-iff (size b 3) (rows b + n))
     (and-iff (Iff·trans flat grid) (every-iff (λ q. leb (mark b q) 1) (λ q. leb-iff (mark b q) 1) n))

@@ -3,16 +3,16 @@ use Prim.Native.Nat.{ℕ, _+_, _*_, _≤_, _<_}
 use mathlib.Core.List.{List}
 use mathlib.Core.Logic.{_⊎_, ⊎-elim, _↔_}
 use mathlib.Core.Path.{_≡_, sym}
-use native.Mathlib.Nat.{mul-le-mul, eq-or-lt-of-le}
+use native.Mathlib.Nat.{le-refl, le-trans, mul-le-mul, eq-or-lt-of-le}
 use native.Mathlib.Omega.{arith}
 use lib.ListN.{length}
 use lib.Arith.{digits-lt}
 use lib.Pow.{pow-mono}
 use Rattle.rules.specs.Job.{places}
-use Rattle.rules.specs.Bytes.{offset, width, said}
-use Rattle.rules.specs.Bytes.{refusal}
+use Rattle.rules.specs.Bytes.{offset, size, is-tall, form, width, said, refusal}
 use Rattle.rules.specs.Keeps.{Keeps}
 use Rattle.rules.proofs.Order.{before-state, before-differ}
+use Rattle.rules.proofs.Forms.{states-most, records-most, counts-sized, longest, longest-most}
 use Rattle.rules.proofs.Judged.{contents-iff, counts-iff, labels-iff, whole-iff, records-iff, goal-iff}
 use Rattle.rules.proofs.Numbers.{refusal-0}
 use Rattle.sets.specs.Sets.{set-room}
@@ -24,7 +24,7 @@ kept b = (into, back)
     into e =
         let (a, (c, (n, (l, (w, (r, g)))))) = refusal-0 b .0 e in
         let (c0, (c1, (c2, (c3, (c4, c5))))) = contents-iff b .0 c in
-        let (n0, (n1, (n2, (n3, (n4, (n5, (n6, (n7, n8)))))))) = counts-iff (said b) .0 n in
+        let (n0, (n1, (n2, (n3, (n4, (n5, (n6, (n7, n8)))))))) = counts-iff b .0 n in
         let (l0, l1) = labels-iff b .0 l in
         let (m0, m1) = whole-iff b .0 w in
         let (m2, m3) = records-iff (said b) .0 r in
@@ -61,8 +61,8 @@ kept b = (into, back)
 
     back : Keeps b → refusal b ≡ 0
     back k =
-        let c = contents-iff b .1 (omega arith) in
-        let n = counts-iff (said b) .1 (omega arith) in
+        let c = contents-iff b .1 (k .counts-at, (k .labels-at, (k .moves-at, (k .goal-at, (k .ends, k .counts-long))))) in
+        let n = counts-iff b .1 (omega arith) in
         let l = labels-iff b .1 (k .labels-long, k .label-below) in
         let w = whole-iff b .1 (k .moves-long, k .few-records) in
         let r = records-iff (said b) .1 (λ i h. (k .state-below i h, (k .action-below i h, k .outcome-below i h)), k .ascending) in
@@ -83,10 +83,18 @@ module _ {b : List ℕ} (k : Keeps b) where
       let no-more : ¬ (m < i) = λ g. before-differ (k .ascending m i g h) (sym s) (sym a) (sym t) in
       omega arith
 
+  -- ---- how much of everything there is at most, in either form
+
+  pub states-few : said b .states ≤ 512
+  states-few = le-trans (k .few-states) (states-most (is-tall b))
+
+  pub records-few : said b .records ≤ 8192
+  records-few = le-trans (k .few-records) (records-most (is-tall b))
+
   pub labels-end : offset b 1 + said b .states ≤ length b
   labels-end = omega arith
 
-  pub moves-end : offset b 2 + 3 * said b .records ≤ length b
+  pub moves-end : offset b 2 + form b .record-size * said b .records ≤ length b
   moves-end = omega arith
 
   pub goal-end : offset b 3 + (said b .goals * width b + said b .goals) ≤ length b
@@ -96,7 +104,7 @@ module _ {b : List ℕ} (k : Keeps b) where
   next-inside h g = omega (arith, digits-lt h g, goal-end)
 
   pub places-few : places (said b) ≤ set-room
-  places-few = mul-le-mul (k .few-states) (k .few-goals)
+  places-few = mul-le-mul states-few (k .few-goals)
 
   pub places-some : 1 ≤ places (said b)
   places-some = mul-le-mul (k .some-states) (k .some-goals)
@@ -104,6 +112,12 @@ module _ {b : List ℕ} (k : Keeps b) where
   pub width-few : width b ≤ 64
   width-few = pow-mono (k .few-propositions)
 
-  -- the longest job
-  pub length-few : length b ≤ 14518
-  length-few = omega (arith, mul-le-mul (k .few-goals) width-few)
+  -- the longest job of each form
+  pub length-few : length b ≤ longest (is-tall b)
+  length-few =
+      let records = mul-le-mul (le-refl (form b .record-size)) (k .few-records) in
+      omega (arith, counts-sized (size b 0) (k .counts-long), records, mul-le-mul (k .few-goals) width-few)
+
+  -- and of either
+  pub length-most : length b ≤ 43576
+  length-most = le-trans length-few (longest-most (is-tall b))

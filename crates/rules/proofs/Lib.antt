@@ -1,6 +1,7 @@
 -- The laws that belong to no one function.
 pub mod Order
 pub mod Rows
+pub mod Forms
 pub mod Judged
 pub mod Faults
 pub mod Numbers

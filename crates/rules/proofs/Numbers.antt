@@ -10,10 +10,11 @@ use borrow.Author.Tests.{ltb-false, le-ltb, not-false, not-true}
 use lib.Dec.{ltb}
 use lib.ListN.{length}
 use Rattle.rules.specs.Fault.{Fault, only, with-record, or-else}
-use Rattle.rules.specs.Bytes.{said}
+use Rattle.rules.specs.Bytes.{is-tall, said}
 use Rattle.rules.specs.Bytes.{contents, counts, labels, whole, records-fault, goal, fault, refusal}
 use Rattle.rules.specs.BadRecord.{FieldsFit, OrderFits, BadField, BadOrder}
 use Rattle.game.proofs.Tests.{ltb-iff}
+use Rattle.rules.proofs.Forms.{records-most}
 use Rattle.rules.proofs.Judged.{whole-iff}
 use Rattle.rules.proofs.Faults.{or-first, or-second, records-good-iff, bad-field-iff, bad-order-iff, records-number, bad-unique}
 
@@ -91,12 +92,12 @@ RecordsGood b = (k : ℕ) → k < said b .records → FieldsFit (said b) k × Or
 
 -- no number, exactly where every test lets through
 pub refusal-0 : (b : List ℕ) → (refusal b ≡ 0)
-    ↔ ((16 ≤ length b) × ((contents b ≡ true) × ((counts (said b) ≡ true) × ((labels b ≡ true) × ((whole b ≡ true)
+    ↔ ((16 ≤ length b) × ((contents b ≡ true) × ((counts b ≡ true) × ((labels b ≡ true) × ((whole b ≡ true)
     × (RecordsGood b × (goal b ≡ true)))))))
 refusal-0 b =
     past (Says 0) 1 (λ e. omega arith) (not-short b)
     (past (Says 0) 2 (λ e. omega arith) (passes (contents b))
-    (past (Says 0) 3 (λ e. omega arith) (passes (counts (said b)))
+    (past (Says 0) 3 (λ e. omega arith) (passes (counts b))
     (past (Says 0) 4 (λ e. omega arith) (passes (labels b))
     (past (Says 0) 5 (λ e. omega arith) (passes (whole b))
     (past-first (Says 0) (records-fault (said b) (said b .records)) (λ d e. d e) (records-good-iff (said b))
@@ -126,18 +127,18 @@ beyond-first {f} {y} o h = go (first-of f y o)
 pub record Numbers (b : List ℕ) : Type 0 where
   pub is-1 : (refusal b ≡ 1) ↔ (length b < 16)
   pub is-2 : (refusal b ≡ 2) ↔ ((16 ≤ length b) × (contents b ≡ false))
-  pub is-3 : (refusal b ≡ 3) ↔ ((16 ≤ length b) × ((contents b ≡ true) × (counts (said b) ≡ false)))
-  pub is-4 : (refusal b ≡ 4) ↔ ((16 ≤ length b) × ((contents b ≡ true) × ((counts (said b) ≡ true) × (labels b ≡ false))))
+  pub is-3 : (refusal b ≡ 3) ↔ ((16 ≤ length b) × ((contents b ≡ true) × (counts b ≡ false)))
+  pub is-4 : (refusal b ≡ 4) ↔ ((16 ≤ length b) × ((contents b ≡ true) × ((counts b ≡ true) × (labels b ≡ false))))
   pub is-5 : (refusal b ≡ 5)
-      ↔ ((16 ≤ length b) × ((contents b ≡ true) × ((counts (said b) ≡ true) × ((labels b ≡ true) × (whole b ≡ false)))))
+      ↔ ((16 ≤ length b) × ((contents b ≡ true) × ((counts b ≡ true) × ((labels b ≡ true) × (whole b ≡ false)))))
   pub is-12 : (k : ℕ) → (fault b ≡ with-record 12 k)
-      ↔ ((16 ≤ length b) × ((contents b ≡ true) × ((counts (said b) ≡ true) × ((labels b ≡ true) × ((whole b ≡ true)
+      ↔ ((16 ≤ length b) × ((contents b ≡ true) × ((counts b ≡ true) × ((labels b ≡ true) × ((whole b ≡ true)
       × BadField (said b) k)))))
   pub is-13 : (k : ℕ) → (fault b ≡ with-record 13 k)
-      ↔ ((16 ≤ length b) × ((contents b ≡ true) × ((counts (said b) ≡ true) × ((labels b ≡ true) × ((whole b ≡ true)
+      ↔ ((16 ≤ length b) × ((contents b ≡ true) × ((counts b ≡ true) × ((labels b ≡ true) × ((whole b ≡ true)
       × BadOrder (said b) k)))))
   pub is-6 : (refusal b ≡ 6)
-      ↔ ((16 ≤ length b) × ((contents b ≡ true) × ((counts (said b) ≡ true) × ((labels b ≡ true) × ((whole b ≡ true)
+      ↔ ((16 ≤ length b) × ((contents b ≡ true) × ((counts b ≡ true) × ((labels b ≡ true) × ((whole b ≡ true)
       × (RecordsGood b × (goal b ≡ false)))))))
 
 pub numbers : (b : List ℕ) → Numbers b
@@ -147,29 +148,29 @@ numbers b =
     let five = beyond-first {f = records} (records-number (said b)) six in
     let four = beyond 4 (not (whole b)) five in
     let three = beyond 3 (not (labels b)) four in
-    let two = beyond 2 (not (counts (said b))) three in
+    let two = beyond 2 (not (counts b)) three in
     let one = beyond 1 (not (contents b)) two in
     record {
       is-1 = here 0 one (ltb-iff (length b) 16);
       is-2 = past (Says 2) 1 (λ e. omega arith) (not-short b) (here 1 two (fails (contents b)));
       is-3 =
           past (Says 3) 1 (λ e. omega arith) (not-short b)
-          (past (Says 3) 2 (λ e. omega arith) (passes (contents b)) (here 2 three (fails (counts (said b)))));
+          (past (Says 3) 2 (λ e. omega arith) (passes (contents b)) (here 2 three (fails (counts b))));
       is-4 =
           past (Says 4) 1 (λ e. omega arith) (not-short b)
           (past (Says 4) 2 (λ e. omega arith) (passes (contents b))
-          (past (Says 4) 3 (λ e. omega arith) (passes (counts (said b))) (here 3 four (fails (labels b)))));
+          (past (Says 4) 3 (λ e. omega arith) (passes (counts b)) (here 3 four (fails (labels b)))));
       is-5 =
           past (Says 5) 1 (λ e. omega arith) (not-short b)
           (past (Says 5) 2 (λ e. omega arith) (passes (contents b))
-          (past (Says 5) 3 (λ e. omega arith) (passes (counts (said b)))
+          (past (Says 5) 3 (λ e. omega arith) (passes (counts b))
           (past (Says 5) 4 (λ e. omega arith) (passes (labels b)) (here 4 five (fails (whole b))))));
       is-12 = λ k. to-records 12 k (omega arith) (bad-field-iff (said b) k);
       is-13 = λ k. to-records 13 k (omega arith) (bad-order-iff (said b) k);
       is-6 =
           past (Says 6) 1 (λ e. omega arith) (not-short b)
           (past (Says 6) 2 (λ e. omega arith) (passes (contents b))
-          (past (Says 6) 3 (λ e. omega arith) (passes (counts (said b)))
+          (past (Says 6) 3 (λ e. omega arith) (passes (counts b))
           (past (Says 6) 4 (λ e. omega arith) (passes (labels b))
           (past (Says 6) 5 (λ e. omega arith) (passes (whole b))
           (past-first (Says 6) records (not-6 records (records-number (said b))) (records-good-iff (said b))
@@ -188,13 +189,13 @@ numbers b =
     -- a number that only the records give, with its record
     to-records : (n k : ℕ) {A : Type 0} → 6 < n → (records-fault (said b) (said b .records) ≡ with-record n k) ↔ A
         → (fault b ≡ with-record n k)
-        ↔ ((16 ≤ length b) × ((contents b ≡ true) × ((counts (said b) ≡ true) × ((labels b ≡ true) × ((whole b ≡ true) × A)))))
+        ↔ ((16 ≤ length b) × ((contents b ≡ true) × ((counts b ≡ true) × ((labels b ≡ true) × ((whole b ≡ true) × A)))))
     to-records n k far p =
         let P : Fault → Type 0 = λ f. f ≡ with-record n k in
         let some : n ≢ 0 = λ (z : n ≡ 0). omega arith in
         past P 1 (differs 1 n k (λ (e : 1 ≡ n). omega arith)) (not-short b)
         (past P 2 (differs 2 n k (λ (e : 2 ≡ n). omega arith)) (passes (contents b))
-        (past P 3 (differs 3 n k (λ (e : 3 ≡ n). omega arith)) (passes (counts (said b)))
+        (past P 3 (differs 3 n k (λ (e : 3 ≡ n). omega arith)) (passes (counts b))
         (past P 4 (differs 4 n k (λ (e : 4 ≡ n). omega arith)) (passes (labels b))
         (past P 5 (differs 5 n k (λ (e : 5 ≡ n). omega arith)) (passes (whole b))
         (here-first P (records-fault (said b) (said b .records))
@@ -219,9 +220,9 @@ module _ (b : List ℕ) where
   pub named-below : (refusal b ≡ 12) ⊎ (refusal b ≡ 13) → fault b .«record» < said b .records
   named-below e = ⊎-elim (λ (x : BadField (said b) (fault b .«record»)). x .is-record) (λ y. y .is-record) (named e)
 
-  -- and a job that comes to its records has at most 4,096
-  pub named-few : (refusal b ≡ 12) ⊎ (refusal b ≡ 13) → fault b .«record» < 4096
-  named-few e = let below = named-below e in omega (arith, whole-iff b .0 (passed e) .1)
+  -- and a job that comes to its records has at most 8,192
+  pub named-few : (refusal b ≡ 12) ⊎ (refusal b ≡ 13) → fault b .«record» < 8192
+  named-few e = let below = named-below e in omega (arith, whole-iff b .0 (passed e) .1, records-most (is-tall b))
     where
       passed : (refusal b ≡ 12) ⊎ (refusal b ≡ 13) → whole b ≡ true
       passed (inl e) = numbers b .is-12 _ .0 (λ i. with-record (e i) (fault b .«record»)) .1 .1 .1 .1 .0
@@ -249,7 +250,7 @@ pub told : (b : List ℕ) → Told Among (fault b)
 told b =
     past-test (ltb (length b) 16) (omega arith)
     (past-test (not (contents b)) (omega arith)
-    (past-test (not (counts (said b))) (omega arith)
+    (past-test (not (counts b)) (omega arith)
     (past-test (not (labels b)) (omega arith)
     (past-test (not (whole b)) (omega arith)
     (past-records (records-number (said b))
@@ -277,6 +278,6 @@ plainly-said b n h e =
     λ i. with-record (e i) (z i)
 
 -- past the tests before the records, their fault is the answer if there is one
-pub records-said : (b : List ℕ) → 16 ≤ length b → contents b ≡ true → counts (said b) ≡ true → labels b ≡ true → whole b ≡ true
+pub records-said : (b : List ℕ) → 16 ≤ length b → contents b ≡ true → counts b ≡ true → labels b ≡ true → whole b ≡ true
     → records-fault (said b) (said b .records) .number ≢ 0 → fault b ≡ records-fault (said b) (said b .records)
 records-said b a c n l w d = rw (le-ltb (length b) 16 a, c, n, l, w) (or-first (records-fault (said b) (said b .records)) _ d)

@@ -1,5 +1,6 @@
 -- A job in bytes: the job that they say, and the first number of the table that applies to them.
--- Document 01, "A job in bytes" and "Numbers that say no", 1 to 6, and document 02's 12 and 13.
+-- Document 01, "A job in bytes" and "Numbers that say no", 1 to 6, and document 02's 12 and 13. The form is asked in `counted`, `move` and
+-- `said`, and by the tests of Counts and Moves; a job says nothing of it.
 use Prim.Native.Nat.{ℕ, zero, suc, _+_, _*_, _/_, _%_, _^_}
 use mathlib.Core.Bool.{Bool, true, cond, not, _&&_, _||_}
 use mathlib.Core.List.{List}
@@ -9,11 +10,9 @@ use Rattle.sets.specs.Sets.{bit}
 use Rattle.game.specs.Below.{every-below}
 use Rattle.rules.specs.Job.{Job}
 use Rattle.rules.specs.Fault.{Fault, only, with-record, or-else}
+use Rattle.rules.specs.Form.{word, Form, old, tall, form-of}
+use Rattle.rules.specs.declared.place.Counts.{Counts}
 use Rattle.rules.specs.declared.place.Move.{Move}
-
--- a number of two bytes, low byte first
-abbrev pub word : List ℕ → ℕ → ℕ
-word b i = getD b i 0 + 256 * getD b (i + 1) 0
 
 -- The contents: body i has its offset at 4 i, and its length after it. Bodies: 0 Counts, 1 Labels, 2 Moves, 3 Goal.
 abbrev pub offset : List ℕ → ℕ → ℕ
@@ -29,19 +28,26 @@ end b i = offset b i + size b i
 abbrev pub byte : List ℕ → ℕ → ℕ → ℕ
 byte b i k = getD b (offset b i + k) 0
 
--- a record: state, action, outcome; and record k of Moves
-abbrev pub record-at : List ℕ → ℕ → Move
-record-at b i = record { state = getD b i 0; action = getD b (i + 1) 0; outcome = getD b (i + 2) 0 }
+-- the length of Counts tells the forms apart
+abbrev pub is-tall : List ℕ → Bool
+is-tall b = eqb (size b 0) (tall .counts-size)
+
+abbrev pub form : List ℕ → Form
+form b = form-of (is-tall b)
+
+-- what Counts says, and record k of Moves
+abbrev pub counted : List ℕ → Counts
+counted b = form b .counts-at b (offset b 0)
 
 abbrev pub move : List ℕ → ℕ → Move
-move b k = record-at b (offset b 2 + 3 * k)
+move b k = form b .record-at b (offset b 2 + form b .record-size * k)
 
 -- how many labels there are, and bytes before the marks
 abbrev pub width : List ℕ → ℕ
-width b = 2 ^ byte b 0 2
+width b = 2 ^ counted b .propositions
 
 abbrev pub rows : List ℕ → ℕ
-rows b = byte b 0 3 * width b
+rows b = counted b .goals * width b
 
 -- the mark of goal state q
 abbrev pub mark : List ℕ → ℕ → ℕ
@@ -51,21 +57,21 @@ mark b q = byte b 3 (rows b + q)
 abbrev pub said : List ℕ → Job
 said b =
     record {
-      states = byte b 0 0;
-      actions = byte b 0 1;
-      propositions = byte b 0 2;
-      goals = byte b 0 3;
-      first = byte b 0 4;
-      first-goal = byte b 0 5;
+      states = counted b .states;
+      actions = counted b .actions;
+      propositions = counted b .propositions;
+      goals = counted b .goals;
+      first = counted b .first;
+      first-goal = counted b .«first_goal»;
       label = λ s. byte b 1 s % 128;
       busy = λ s. bit (byte b 1 s) 7;
-      records = size b 2 / 3;
+      records = size b 2 / form b .record-size;
       move = move b;
       next = λ q l. byte b 3 (q * width b + l);
       final = λ q. eqb (mark b q) 1;
     }
 
--- Bodies follow in order with no gap, the first at 16, and the last ends where the job ends; Counts is 6 long.
+-- Bodies follow in order with no gap, the first at 16, and the last ends where the job ends; Counts is 6 long, or 8 in the tall form.
 abbrev pub contents : List ℕ → Bool
 contents b =
     eqb (offset b 0) 16
@@ -73,15 +79,17 @@ contents b =
     && (eqb (offset b 2) (end b 1)
     && (eqb (offset b 3) (end b 2)
     && (eqb (length b) (end b 3)
-    && eqb (size b 0) 6))))
+    && (eqb (size b 0) (old .counts-size) || eqb (size b 0) (tall .counts-size))))))
 
--- S, A, P and Q, and the first state f and first goal state g, each in its range
-abbrev pub in-range : ℕ → ℕ → ℕ → ℕ → ℕ → ℕ → Bool
-in-range s a p q f g =
-    leb 1 s && (leb s 128 && (leb 1 a && (leb a 16 && (leb p 6 && (leb 1 q && (leb q 32 && (ltb f s && ltb g q)))))))
+-- S, A, P and Q, and the first state f and first goal state g, each in its range, where there may be so many states
+abbrev pub in-range : ℕ → ℕ → ℕ → ℕ → ℕ → ℕ → ℕ → Bool
+in-range most s a p q f g =
+    leb 1 s && (leb s most && (leb 1 a && (leb a 16 && (leb p 6 && (leb 1 q && (leb q 32 && (ltb f s && ltb g q)))))))
 
-abbrev pub counts : Job → Bool
-counts j = in-range (j .states) (j .actions) (j .propositions) (j .goals) (j .first) (j .first-goal)
+abbrev pub counts : List ℕ → Bool
+counts b =
+    let j = said b in
+    in-range (form b .most-states) (j .states) (j .actions) (j .propositions) (j .goals) (j .first) (j .first-goal)
 
 -- a label for each state, below 2^P without its mark
 abbrev pub labels : List ℕ → Bool
@@ -116,9 +124,9 @@ abbrev pub records-fault : Job → ℕ → Fault
 records-fault j zero = only 0
 records-fault j (suc k) = or-else (records-fault j k) (record-fault j k)
 
--- Moves has whole records, not too many
+-- Moves has whole records, not too many: at most 12,288 bytes, or 40,960 in the tall form
 abbrev pub whole : List ℕ → Bool
-whole b = eqb (size b 2 % 3) 0 && leb (size b 2) 12288
+whole b = eqb (size b 2 % form b .record-size) 0 && leb (size b 2) (form b .record-size * form b .most-records)
 
 abbrev pub goal : List ℕ → Bool
 goal b =
@@ -131,7 +139,7 @@ abbrev pub fault : List ℕ → Fault
 fault b =
     cond (ltb (length b) 16) (only 1)
     (cond (not (contents b)) (only 2)
-    (cond (not (counts (said b))) (only 3)
+    (cond (not (counts b)) (only 3)
     (cond (not (labels b)) (only 4)
     (cond (not (whole b)) (only 5)
     (or-else (records-fault (said b) (said b .records))

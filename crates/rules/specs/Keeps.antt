@@ -5,7 +5,7 @@ use mathlib.Core.List.{List}
 use mathlib.Core.Logic.{_⊎_}
 use mathlib.Core.Path.{_≡_}
 use lib.ListN.{length}
-use Rattle.rules.specs.Bytes.{offset, size, end, width, mark, said}
+use Rattle.rules.specs.Bytes.{offset, size, end, form, width, mark, said}
 use Rattle.rules.specs.declared.place.Move.{Move}
 
 -- m comes before n as a triple, compared field by field
@@ -22,10 +22,10 @@ pub record Keeps (b : List ℕ) : Type 0 where
   pub moves-at : offset b 2 ≡ end b 1
   pub goal-at : offset b 3 ≡ end b 2
   pub ends : length b ≡ end b 3
-  -- Counts
-  pub counts-long : size b 0 ≡ 6
+  -- Counts: 6 bytes, and up to 128 states; or 8 bytes, and up to 512 states
+  pub counts-long : (size b 0 ≡ 6) ⊎ (size b 0 ≡ 8)
   pub some-states : 1 ≤ said b .states
-  pub few-states : said b .states ≤ 128
+  pub few-states : said b .states ≤ form b .most-states
   pub some-actions : 1 ≤ said b .actions
   pub few-actions : said b .actions ≤ 16
   pub few-propositions : said b .propositions ≤ 6
@@ -36,9 +36,9 @@ pub record Keeps (b : List ℕ) : Type 0 where
   -- Labels: one byte a state, without its mark below 2^P
   pub labels-long : size b 1 ≡ said b .states
   pub label-below : (s : ℕ) → s < said b .states → said b .label s < width b
-  -- Moves: 0 to 4,096 records of three bytes, each field in its range, strictly ascending
-  pub moves-long : size b 2 ≡ 3 * said b .records
-  pub few-records : said b .records ≤ 4096
+  -- Moves: 0 to 4,096 records of three bytes, or 0 to 8,192 of five; each field in its range, strictly ascending
+  pub moves-long : size b 2 ≡ form b .record-size * said b .records
+  pub few-records : said b .records ≤ form b .most-records
   pub state-below : (k : ℕ) → k < said b .records → said b .move k .state < said b .states
   pub action-below : (k : ℕ) → k < said b .records → said b .move k .action < said b .actions
   pub outcome-below : (k : ℕ) → k < said b .records → said b .move k .outcome < said b .states

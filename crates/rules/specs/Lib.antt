@@ -1,6 +1,7 @@
 -- The meaning: what the promises of every crate are said with.
 pub mod Job
 pub mod Fault
+pub mod Form
 pub mod Bytes
 pub mod Keeps
 pub mod BadRecord

@@ -7,7 +7,7 @@ use lib.Dec.{leb, ltb, eqb}
 use lib.ListN.{length, getD}
 use Rattle.game.specs.Game.{Right}
 use Rattle.rules.specs.Job.{Job, place, places, entry-number, arena}
-use Rattle.rules.specs.Bytes.{word}
+use Rattle.rules.specs.Form.{word}
 use Rattle.rules.specs.declared.place.Place.{Place}
 use Rattle.game.specs.declared.entry.Entry.{Entry}
 

@@ -1,4 +1,4 @@
-// A place, and a move record, by value.
+// A place, a move record, and the counts of a job, by value.
 ghost use mathlib.Core.Path.{_≡_};
 ghost use Rattle.rules.specs.Job.{entry-number};
 
@@ -13,6 +13,16 @@ pub struct Move {
     pub state: u16,
     pub action: u8,
     pub outcome: u16,
+}
+
+// What Counts says: how many states, actions, propositions and goal states a job has, and with which state and goal state it starts.
+pub struct Counts {
+    pub states: usize,
+    pub actions: u8,
+    pub propositions: u8,
+    pub goals: usize,
+    pub first: usize,
+    pub first_goal: usize,
 }
 
 impl Place {

@@ -12,7 +12,7 @@ bit n k = eqb (n / 2 ^ k % 2) 1
 
 -- how many words a set of places has, and how many places it has room for
 abbrev pub set-words : ℕ
-set-words = 64
+set-words = 256
 
 abbrev pub set-room : ℕ
 set-room = 64 * set-words

@@ -7,7 +7,7 @@ ghost use lib.ListN.{length};
 ghost use Rattle.sets.specs.Sets.{set-words, set-room, member, count, Put};
 
 // How many words a set has, and how many places it has room for.
-pub const WORDS: usize = 64;
+pub const WORDS: usize = 256;
 
 pub const ROOM: usize = 64 * WORDS;
 

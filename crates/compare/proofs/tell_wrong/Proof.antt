@@ -57,7 +57,8 @@ returns c =
     let y = c .before .before .before .before .before in
     let p = y .before .before .before in
     let s = p .before .before .before .before .before .before in
-    absurd (never-refused (s .pre .0) (s .args .plan .now) (y .why .given .0 .0) (rw (y .why .given .1) at (p .plan .ensures)) refl)
+    absurd (never-refused (s .pre .0) (s .args .plan .now) (y .why .given .0 .0) (rw (y .why .given .1) at (p .plan .ensures))
+    (omega (arith, few-places (s .pre .0))))
 
 same-length-2 : tie.Need-same-length-2
 same-length-2 c = search needs

@@ -3,10 +3,12 @@ use borrow.Author.Needs.{needs}
 use borrow.Author.Tests.{eqb-true, eq-eqb}
 use mathlib.Core.Bool.{true, false}
 use mathlib.Core.List.{List}
-use mathlib.Core.Path.{_≡_, sym}
+use mathlib.Core.Logic.{_⊎_, inl, inr}
+use mathlib.Core.Path.{_≡_, sym, _∙_}
 use Prim.Native.Nat.{ℕ}
 use native.Mathlib.Omega.{arith}
-use Rattle.rules.specs.Bytes.{contents}
+use lib.ListN.{length}
+use Rattle.rules.specs.Bytes.{offset, size, end, contents}
 use Rattle.game.proofs.Search.{if-not-true}
 use Rattle.game.proofs.Tests.{same-test}
 use Rattle.rules.proofs.Judged.{contents-iff}
@@ -87,12 +89,40 @@ returns-5 c =
     c .before .before .before .before .before .before .before .before .before .before .before .before .before .before .args .job .now in
     refused b (λ e. omega (arith, contents-iff b .0 e))
 
+-- past the tests of the offsets: the bytes, and how long Counts is
+abbrev job-of : tie.Else5 → List ℕ
+job-of c = c .before .before .before .before .before .before .before .before .before .before .before .before .before .before .args .job .now
+
+abbrev long : tie.Else5 → ℕ
+long c = c .before .before .before .before .before .before .before .before .before .before .before .word-at2 .result
+
+length-of : (c : tie.Else5) → long c ≡ size (job-of c) 0
+length-of c = c .before .before .before .before .before .before .before .before .before .before .before .word-at2 .ensures
+
+-- each body begins where the one before it ends
+in-order : (c : tie.Else5) → let b = job-of c in (size b 0 ≡ 6) ⊎ (size b 0 ≡ 8)
+    → (offset b 0 ≡ 16)
+    × ((offset b 1 ≡ end b 0)
+    × ((offset b 2 ≡ end b 1)
+    × ((offset b 3 ≡ end b 2)
+    × ((length b ≡ end b 3) × ((size b 0 ≡ 6) ⊎ (size b 0 ≡ 8))))))
+in-order c h = (omega arith, (omega arith, (omega arith, (omega arith, (omega arith, h)))))
+
+by-length : (c : tie.Else6) → let b = job-of (c .before) in (size b 0 ≡ 6) ⊎ (size b 0 ≡ 8) → long (c .before) ≡ 8
+by-length c (inl e) = absurd (c .if6 .left (length-of (c .before) ∙ e))
+by-length c (inr e) = length-of (c .before) ∙ e
+
 returns-6 : tie.Need-returns-6
 returns-6 c =
-    let b =
-    c .before .before .before .before .before .before .before .before .before .before .before .before .before .before .args .job .now in
-    let n = c .before .before .before .before .before .before .before .before .before .before .before .word-at2 .result in
-    same-test (λ e. contents-iff b .1 (omega (arith, eqb-true n 6 e))) (λ e. eq-eqb n 6 (omega (arith, contents-iff b .0 e)))
+    let b = job-of (c .before) in
+    sym (contents-iff b .1 (in-order (c .before) (inl (sym (length-of (c .before)) ∙ c .if6 .taken))))
+
+returns-7 : tie.Need-returns-7
+returns-7 c =
+    let b = job-of (c .before) in
+    let n = long (c .before) in
+    same-test (λ e. contents-iff b .1 (in-order (c .before) (inr (sym (length-of (c .before)) ∙ eqb-true n 8 e))))
+    (λ e. eq-eqb n 8 (by-length c (contents-iff b .0 e .1 .1 .1 .1 .1)))
 
 pub contents-fit-spec : {M : Type 1} → statement M
 contents-fit-spec =
@@ -115,4 +145,5 @@ contents-fit-spec =
     word-at-requires-8
     add-if5
     returns-5
-    returns-6)
+    returns-6
+    returns-7)

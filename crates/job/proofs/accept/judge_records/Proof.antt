@@ -10,16 +10,16 @@ use Rattle.rules.proofs.Faults.{records-more, records-stop, records-none}
 use Rattle.rules.proofs.Figures.{refusal-some}
 use Rattle.job.specs.Joined.{joined}
 use Rattle.job.specs.Reading.{verdict-fault}
-use Rattle.job.proofs.Laying.{Bodies, bodies, previous, fault-is, previous-is}
+use Rattle.job.proofs.Laying.{Bodies, bodies, record-inside, record-of, previous, fault-is, previous-is}
 use Rattle.job.proofs.accept.judge_records.Statement.{statement}
 use Rattle.job.proofs.accept.judge_records.Tie as tie
 
 abbrev Inv-loop : tie.InvT-loop
-Inv-loop job l n at last₀ k₀ last k =
+Inv-loop job l n last₀ k₀ last k =
     (k ≤ n) × (records-fault (said job) k .number ≡ 0) × (last ≡ previous (said job .move) k)
 
 abbrev μ-loop : tie.MeasureT-loop
-μ-loop job l n at last₀ k₀ last k = n - k
+μ-loop job l n last₀ k₀ last k = n - k
 
 -- where Moves lies in the job
 lain : (s : tie.Start Inv-loop μ-loop) → Bodies (s .args .job .now) (s .args .l)
@@ -35,19 +35,15 @@ judged c =
     let b = s .args .job .now in
     let byte : (i : ℕ) → getD b i 0 < 256 = λ i. omega (arith, t .before .shared-slice-known .given i) in
     c .judge-record .ensures
-    ∙ rw (c .before .record-at .ensures, t .loop .inv .2) (fault-is b (s .args .l) byte (s .pre .0 .is-layout) (t .loop .k))
+    ∙ rw (c .before .nth-record .ensures, t .loop .inv .2) (fault-is b (s .args .l) byte (s .pre .0 .is-layout) (t .loop .k))
 
 loop-holds : tie.Need-loop-holds Inv-loop μ-loop
 loop-holds c = (omega arith, refl, refl)
 
-mul-record-at : tie.Need-mul-record-at Inv-loop μ-loop
-mul-record-at c = omega (arith, lain (c .before .before .before))
-
-add-record-at : tie.Need-add-record-at Inv-loop μ-loop
-add-record-at c = omega (arith, lain (c .before .before .before))
-
-record-at-requires : tie.Need-record-at-requires Inv-loop μ-loop
-record-at-requires c κs = omega (arith, lain (c .before .before .before))
+nth-record-requires : tie.Need-nth-record-requires Inv-loop μ-loop
+nth-record-requires c κs =
+    let s = c .before .before .before in
+    record-inside (s .args .l .tall) (s .args .l .«moves_at») (c .loop-test .taken) (lain s .records-inside)
 
 judge-record-requires : tie.Need-judge-record-requires Inv-loop μ-loop
 judge-record-requires c κs = omega arith
@@ -89,7 +85,7 @@ loop-again c =
     let e = ap verdict-fault (sym (g .enum-told .given .1)) ∙ judged j in (
       omega arith,
       records-more (said b) (t .loop .k) (t .loop .inv .1) (sym (ap (λ (f : Fault). f .number) e)),
-      c .join .ensures ∙ ap joined (r .record-at .ensures) ∙ previous-is b (s .args .l) (s .pre .0 .is-layout) (t .loop .k),
+      c .join .ensures ∙ ap joined {y = record-of b (s .args .l) (t .loop .k)} (r .nth-record .ensures) ∙ previous-is b (s .args .l) (s .pre .0 .is-layout) (t .loop .k),
     )
 
 returns-2 : tie.Need-returns-2 Inv-loop μ-loop
@@ -106,9 +102,7 @@ judge-records-spec =
     Inv-loop
     μ-loop
     loop-holds
-    mul-record-at
-    add-record-at
-    record-at-requires
+    nth-record-requires
     judge-record-requires
     enum-known-why
     returns

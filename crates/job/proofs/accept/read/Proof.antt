@@ -8,8 +8,9 @@ use mathlib.Core.Path.{_≡_, sym, ap, _∙_}
 use Prim.Native.Nat.{ℕ}
 use native.Mathlib.Omega.{arith}
 use Rattle.rules.specs.Fault.{Fault}
-use Rattle.rules.specs.Bytes.{said, contents, counts, labels, whole, records-fault}
+use Rattle.rules.specs.Bytes.{is-tall, said, contents, counts, labels, whole, records-fault}
 use Rattle.rules.specs.Answers.{refusal-fault}
+use Rattle.rules.proofs.Forms.{records-most}
 use Rattle.rules.proofs.Judged.{whole-iff}
 use Rattle.rules.proofs.Faults.{records-good-iff}
 use Rattle.rules.proofs.Figures.{refusal-some}
@@ -34,7 +35,7 @@ laid c = record { long = c .before .before .before .if1 .left; in-order = ordere
 ranged : (c : tie.Else3) → in-ranges (c .before .before .layout-of .result) ≡ true
 ranged c = sym (c .before .counts-fit .ensures) ∙ not-false _ (c .if3 .left)
 
-counted : (c : tie.Else3) → counts (said (now-of (c .before .before))) ≡ true
+counted : (c : tie.Else3) → counts (now-of (c .before .before)) ≡ true
 counted c = rw (c .before .before .layout-of .ensures) at (ranged c)
 
 labelled : (c : tie.Else4) → labels (now-of (c .before .before .before .before)) ≡ true
@@ -119,8 +120,9 @@ returns-5 c =
 
 judge-records-requires : tie.Need-judge-records-requires
 judge-records-requires c κs =
-    let h = laid (c .before .before .before .before .before .before) in
-    (h, rw (h .is-layout) (omega (arith, whole-iff (now-of (c .before .before .before .before .before .before)) .0 (wholly c))))
+    let d = c .before .before .before .before .before .before in
+    let h = laid d in
+    (h, rw (h .is-layout) (omega (arith, whole-iff (now-of d) .0 (wholly c), records-most (is-tall (now-of d)))))
 
 enum-known-why : tie.Need-enum-known-why
 enum-known-why c = search needs

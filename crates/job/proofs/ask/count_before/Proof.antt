@@ -6,7 +6,7 @@ use borrow.Author.Needs.{needs}
 use Rattle.rules.specs.Bytes.{said, before}
 use Rattle.rules.specs.declared.place.Move.{Move}
 use Rattle.job.specs.Found.{triple, Parted}
-use Rattle.job.proofs.Asking.{records-said}
+use Rattle.job.proofs.Asking.{few-records, records-said}
 use Rattle.job.proofs.Finding.{parted-none, parted-under, parted-beyond}
 use Rattle.job.proofs.ask.count_before.Statement.{statement}
 use Rattle.job.proofs.ask.count_before.Tie as tie
@@ -24,7 +24,9 @@ sub-middle : tie.Need-sub-middle Inv-loop μ-loop
 sub-middle c = search needs
 
 add-middle : tie.Need-add-middle Inv-loop μ-loop
-add-middle c = search needs
+add-middle c =
+    let f = c .before .before .before .pre in
+    omega (arith, few-records f, records-said f, c .before .loop .inv .1 .inside)
 
 move-at-requires : tie.Need-move-at-requires Inv-loop μ-loop
 move-at-requires c κs =
@@ -43,7 +45,9 @@ answered c =
     c .is-before .ensures ∙ ap (λ (m : Move). before m (triple (x .s) (x .a) (x .t))) (c .before .move-at .ensures)
 
 add-low : tie.Need-add-low Inv-loop μ-loop
-add-low c = search needs
+add-low c =
+    let f = c .before .before .before .before .before .before .pre in
+    omega (arith, few-records f, records-said f, c .before .before .before .before .loop .inv .1 .inside)
 
 loop-less : tie.Need-loop-less Inv-loop μ-loop
 loop-less c = search needs

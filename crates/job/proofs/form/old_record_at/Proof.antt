@@ -1,7 +1,7 @@
--- `body::record_at` meets its contract.
+-- `form::old_record_at` meets its contract.
 use borrow.Author.Needs.{needs}
-use Rattle.job.proofs.body.record_at.Statement.{statement}
-use Rattle.job.proofs.body.record_at.Tie as tie
+use Rattle.job.proofs.form.old_record_at.Statement.{statement}
+use Rattle.job.proofs.form.old_record_at.Tie as tie
 
 shared-slice-read-wide : tie.Need-shared-slice-read-wide
 shared-slice-read-wide c = search needs
@@ -27,8 +27,8 @@ wide-requires-2 c κs = search needs
 returns : tie.Need-returns
 returns c = rw (c .before .before .before .wide .ensures, c .wide2 .ensures)
 
-pub record-at-spec : {M : Type 1} → statement M
-record-at-spec =
+pub old-record-at-spec : {M : Type 1} → statement M
+old-record-at-spec =
     tie.close
     (tie.spec
     shared-slice-read-wide
