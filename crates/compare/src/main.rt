@@ -14,7 +14,7 @@ use job::layout::Reading;
 use rules::answer::Planned;
 
 // How much of a job's file is taken in: more than the longest job, so that a longer one is refused.
-const JOB_ROOM: usize = 16384;
+const JOB_ROOM: usize = 49152;
 
 // The longest line has at most 60 bytes.
 const ROOM: usize = 64;

@@ -75,7 +75,7 @@ module _ {b : List ℕ} {l : Layout} (f : Fit b l) where
   few-records = rw records-said (kept.records-few (f .keeps))
 
   pub few-places : l .states * l .goals ≤ set-room
-  few-places = mul-le-mul few-states few-goals
+  few-places = omega (arith, mul-le-mul few-states few-goals)
 
   pub first-state : l .first < l .states
   first-state = rw (first-said, states-said) (f .keeps .first-state)

@@ -10,7 +10,7 @@ use borrow.Author.Tests.{lt-ltb, le-ltb, eq-eqb, ne-eqb}
 use lib.Arith.{digits-lt, digits-div, digits-mod}
 use lib.Dec.{ltb}
 use lib.ListN.{length, getD}
-use Rattle.sets.specs.Sets.{set-words, set-room, member, count}
+use Rattle.sets.specs.Sets.{set-words, member, count}
 use Rattle.game.specs.Game.{Inside, Lawful, says}
 use Rattle.game.specs.Below.{some-below}
 use Rattle.rules.specs.Job.{Job, place, places, entry-number, arena}
@@ -220,7 +220,7 @@ module _ {b : List ℕ} {l : Layout} (t : Fit b l) where
 
 -- ---- sizes
 
--- the words held f and hold g, which is true wherever f is
+-- the words held f and hold g, which is true wherever f is, and are counted up to some number
 module _ {j : Job} {f g : Place → Bool} {e e′ : Place → Entry} {before before′ ws plan ws′ plan′ : List ℕ}
     (wider : (p : Place) → f p ≡ true → g p ≡ true) (h : Holds j f e before ws plan) (h′ : Holds j g e′ before′ ws′ plan′) where
   still : (x : ℕ) → member ws x ≡ true → member ws′ x ≡ true
@@ -228,29 +228,30 @@ module _ {j : Job} {f g : Place → Bool} {e e′ : Place → Entry} {before bef
       let (l, r) = member-held h x m in
       holds-member h′ x l ∙ wider (place-at (j .goals) x) r
 
-  pub held-same : places j ≤ set-room → count (member ws′) set-room ≡ count (member ws) set-room
+  pub held-same : (room : ℕ) → places j ≤ room → count (member ws′) room ≡ count (member ws) room
       → (p : Place) → Inside (arena j) p → g p ≡ true → f p ≡ true
-  held-same few c p m r =
+  held-same room few c p m r =
       let i = entry-number (j .goals) p in
       let l : i < places j = number-below j p m in
-      let same : member ws i ≡ member ws′ i = count-same (member ws) (member ws′) still set-room (omega arith) i (omega arith) in
+      let same : member ws i ≡ member ws′ i = count-same (member ws) (member ws′) still room (omega arith) i (omega arith) in
       sym (holds-in-set h p m) ∙ same ∙ holds-in-set h′ p m ∙ r
 
-  pub held-more : 0 < j .goals → (count (member ws′) set-room ≡ count (member ws) set-room → ⊥)
+  pub held-more : (room : ℕ) → 0 < j .goals → (count (member ws′) room ≡ count (member ws) room → ⊥)
       → (p : Place) × Inside (arena j) p × (f p ≡ false) × (g p ≡ true)
-  held-more some c =
-      let fewer = count-sub (member ws) (member ws′) still set-room in
-      let (x, b, old, new) = count-more (member ws) (member ws′) still set-room (omega arith) in
+  held-more room some c =
+      let fewer = count-sub (member ws) (member ws′) still room in
+      let (x, b, old, new) = count-more (member ws) (member ws′) still room (omega arith) in
       let (l, r) = member-held h′ x new in
       (place-at (j .goals) x, place-inside j some x l, sym (holds-member h x l) ∙ old, r)
 
 module _ {j : Job} (v : Phase) (f : Place → Bool) (k : ℕ) {e e′ : Place → Entry} {before before′ ws plan ws′ plan′ : List ℕ}
-    (h : Holds j (reached v (arena j) f k) e before ws plan) (h′ : Holds j (reached v (arena j) f (suc k)) e′ before′ ws′ plan′) where
-  -- a round after which the set has the size that it had added nothing; otherwise it added a place
-  pub same-size : places j ≤ set-room → count (member ws′) set-room ≡ count (member ws) set-room → (p : Place) → Inside (arena j) p
-      → reached v (arena j) f (suc k) p ≡ true → reached v (arena j) f k p ≡ true
-  same-size = held-same (reached-up v (arena j) f k) h h′
+    (h : Holds j (reached v (arena j) f k) e before ws plan) (h′ : Holds j (reached v (arena j) f (suc k)) e′ before′ ws′ plan′)
+  where
+    -- a round after which the set has the size that it had added nothing; otherwise it added a place
+    pub same-size : (room : ℕ) → places j ≤ room → count (member ws′) room ≡ count (member ws) room → (p : Place) → Inside (arena j) p
+        → reached v (arena j) f (suc k) p ≡ true → reached v (arena j) f k p ≡ true
+    same-size = held-same (reached-up v (arena j) f k) h h′
 
-  pub grew : 0 < j .goals → (count (member ws′) set-room ≡ count (member ws) set-room → ⊥)
-      → (p : Place) × Inside (arena j) p × (reached v (arena j) f k p ≡ false) × (reached v (arena j) f (suc k) p ≡ true)
-  grew = held-more (reached-up v (arena j) f k) h h′
+    pub grew : (room : ℕ) → 0 < j .goals → (count (member ws′) room ≡ count (member ws) room → ⊥)
+        → (p : Place) × Inside (arena j) p × (reached v (arena j) f k p ≡ false) × (reached v (arena j) f (suc k) p ≡ true)
+    grew = held-more (reached-up v (arena j) f k) h h′

@@ -6,7 +6,7 @@ use mathlib.Core.Logic.{inl, inr, ⊎-elim}
 use mathlib.Core.Path.{_≡_, refl, sym, _∙_, subst}
 use native.Mathlib.Numerals.{add-one}
 use native.Mathlib.Omega.{arith}
-use Rattle.sets.specs.Sets.{set-room, member, count}
+use Rattle.sets.specs.Sets.{member, count}
 use Rattle.game.specs.Game.{Arena, Inside, Lawful, Pending, WinsIn, HopesIn}
 use Rattle.game.specs.Below.{some-below}
 use Rattle.rules.specs.Job.{Job, place, places, arena}
@@ -16,7 +16,7 @@ use Rattle.rules.specs.declared.place.Place.{Place}
 use Rattle.sets.specs.declared.places.PlaceSet.{PlaceSet}
 use Rattle.game.specs.declared.entry.Entry.{Entry}
 use Rattle.game.proofs.Tests.{same-test, last-or-below, some-below-ext}
-use Rattle.rules.proofs.Kept.{places-few, places-some}
+use Rattle.rules.proofs.Kept.{places-some}
 use Rattle.rules.proofs.Arenas.{inside-iff, arena-lawful}
 use Rattle.job.specs.Layout.{Fit}
 use Rattle.job.specs.declared.layout.Layout.{Layout}
@@ -69,8 +69,8 @@ module _ {b : List ℕ} {l : Layout} (t : Fit b l) {v : Phase} {ws₀ plan₀ ws
       → Holds (said b) (reached v (arena (said b)) f (suc k)) (written v (arena (said b)) f e (suc k)) before ws′ plan′
   next f e before h = holds-round t v f e k (g .holds f e before h) (rw (add-one k) at r)
 
-  pub going-more : (count (member ws′) set-room ≡ count (member ws) set-room → ⊥) → Going (said b) v ws₀ plan₀ (k + 1) ws′ plan′
-  going-more c =
+  pub going-more : (room : ℕ) → (count (member ws′) room ≡ count (member ws) room → ⊥) → Going (said b) v ws₀ plan₀ (k + 1) ws′ plan′
+  going-more room c =
       rw (add-one k)
       (record {
         holds = next;
@@ -81,20 +81,20 @@ module _ {b : List ℕ} {l : Layout} (t : Fit b l) {v : Phase} {ws₀ plan₀ ws
           → Added (said b) v f i
       more f e before h i m =
           ⊎-elim
-          (λ (q : i ≡ k). rw q (grew v f k (g .holds f e before h) (next f e before h) (t .keeps .some-goals) c))
+          (λ (q : i ≡ k). rw q (grew v f k (g .holds f e before h) (next f e before h) room (t .keeps .some-goals) c))
           (λ (d : i < k). g .added f e before h i d)
           (last-or-below m)
 
-  pub going-stop : (set : PlaceSet) → set .words ≡ ws′ → count (member ws′) set-room ≡ count (member ws) set-room
+  pub going-stop : (room : ℕ) (set : PlaceSet) → set .words ≡ ws′ → l .states * l .goals ≤ room → count (member ws′) room ≡ count (member ws) room
       → (f : Place → Bool) (e : Place → Entry) (before : List ℕ) → Holds (said b) f e before ws₀ plan₀
       → Settled (said b) v f e before (record { set = set; over = false }) plan′
-  going-stop set q c f e before h =
+  going-stop room set q few c f e before h =
       record {
         rounds = suc k;
         holds = rw q (next f e before h);
         last =
             λ z. last-next (arena (said b)) (arena-lawful b (t .keeps)) v f k
-            (same-size v f k (g .holds f e before h) (next f e before h) (places-few (t .keeps)) c);
+            (same-size v f k (g .holds f e before h) (next f e before h) room (rw (t .is-layout) at few) c);
         more = λ z. absurd (false≢true z);
       }
 

@@ -109,14 +109,24 @@ pub fn one_round(
     ensures { λ r. ⌜ Passed (now (job .entry)) l phase number (set .words) 0 (l .states * l .goals)
         (set .words) (now (plan .entry)) (r .words) (now (plan .exit)) ⌝ }
 {
-    let old = set.words;
     let mut new = set.words;
     let states = l.states;
     let mut start: usize = 0;
     let mut s: usize = 0;
     while s < states {
         let end = crate::range::range_end(job, l, s, start);
-        label_state(&mut new, plan, job, l, &old, s, start, end, phase, number);
+        label_state(
+            &mut new,
+            plan,
+            job,
+            l,
+            &set.words,
+            s,
+            start,
+            end,
+            phase,
+            number,
+        );
         start = end;
         s += 1;
     }

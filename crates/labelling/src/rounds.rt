@@ -22,12 +22,13 @@ pub fn all_rounds(plan: &mut [u8], job: &[u8], l: Layout, set: PlaceSet, phase: 
     ensures { λ r. ⌜ Settles (said (now (job .entry))) phase (set .words) (now (plan .entry)) r (now (plan .exit)) ⌝ }
 {
     let n = l.states * l.goals;
+    let used = sets::places::words_for(n);
     let mut got = set;
-    let mut few = set.size();
+    let mut few = sets::places::size_of(&set.words, used);
     let mut k: usize = 0;
     while k < n {
         let next = crate::round::one_round(plan, job, l, got, phase, (k + 1) as u16);
-        let more = next.size();
+        let more = sets::places::size_of(&next.words, used);
         if more == few {
             return Rounds {
                 set: next,

@@ -1,7 +1,8 @@
 // A set of places, by value: bit i % 64 of word i / 64 tells of the place whose entry is i.
 ghost use mathlib.Core.Path.{_≡_};
 ghost use mathlib.Core.Bool.{false, _&&_};
-ghost use Prim.Native.Nat.{ℕ, _<_};
+ghost use Prim.Native.Nat.{ℕ, _+_, _*_, _/_, _^_, _<_, _≤_};
+ghost use lib.Count.{ones};
 ghost use lib.Dec.{ltb};
 ghost use lib.ListN.{length};
 ghost use Rattle.sets.specs.Sets.{set-words, set-room, member, count, Put};
@@ -23,19 +24,35 @@ impl PlaceSet {
             words: [0u64; WORDS],
         }
     }
+}
 
-    // How many places the set has.
-    pub fn size(self) -> usize
-        ensures { λ r. ⌜ r ≡ count (member (self .words)) set-room ⌝ }
-    {
-        let mut n: usize = 0;
-        let mut w: usize = 0;
-        while w < WORDS {
-            n += u64::count_ones(self.words[w]) as usize;
-            w += 1;
-        }
-        n
+// How many words hold the places below n.
+pub fn words_for(n: usize) -> usize
+    requires { ⌜ n ≤ set-room ⌝ }
+    ensures { λ r. ⌜ (n ≤ 64 * r) × (r ≤ set-words) × (r ≡ (n + 63) / 64) ⌝ }
+{
+    (n + 63) / 64
+}
+
+// How many bits of a word are set. A word that is lent is passed here by value, which tells that it has 64 bits.
+fn ones_of(word: u64) -> usize
+    ensures { λ r. ⌜ (r ≡ ones word) × (word < 2 ^ 64) ⌝ }
+{
+    u64::count_ones(word) as usize
+}
+
+// How many places a set, whose words are lent, has in its first n words.
+pub fn size_of(words: &[u64; WORDS], n: usize) -> usize
+    requires { ⌜ n ≤ set-words ⌝ }
+    ensures { λ r. ⌜ r ≡ count (member (now (words .entry))) (64 * n) ⌝ }
+{
+    let mut size: usize = 0;
+    let mut w: usize = 0;
+    while w < n {
+        size += ones_of(words[w]);
+        w += 1;
     }
+    size
 }
 
 // Whether a set, whose words are lent, has the place i: an inner loop copies no set.

@@ -15,29 +15,29 @@ use Rattle.labelling.proofs.round.one_round.Tie as tie
 use Rattle.sets.specs.Sets.{set-words}
 
 abbrev Inv-loop : tie.InvT-loop
-Inv-loop plan₀ job l phase number old new₀ states start₀ s₀ plan new start s =
+Inv-loop plan₀ job l phase number set new₀ states start₀ s₀ plan new start s =
     (s ≤ states)
     × From (said job) s start
     × (length new₀ ≡ set-words)
-    × Passed job l phase number old 0 (s * l .goals) new₀ plan₀ new plan
+    × Passed job l phase number (set .words) 0 (s * l .goals) new₀ plan₀ new plan
 
 abbrev μ-loop : tie.MeasureT-loop
-μ-loop plan₀ job l phase number old new₀ states start₀ s₀ plan new start s = states - s
+μ-loop plan₀ job l phase number set new₀ states start₀ s₀ plan new start s = states - s
 
 loop-holds : tie.Need-loop-holds Inv-loop μ-loop
 loop-holds c = (omega arith, from-start _, search needs, pass-empty (omega arith))
 
 range-end-requires : tie.Need-range-end-requires Inv-loop μ-loop
 range-end-requires c κs =
-    (c .before .before .before .before .before .before .pre .0, c .before .loop .inv .1)
+    (c .before .before .before .before .before .pre .0, c .before .loop .inv .1)
 
 label-state-requires : tie.Need-label-state-requires Inv-loop μ-loop
 label-state-requires c κs =
     -- r: where the state's records end is known; t: a turn begins
-    let r = c .before .before .before in
+    let r = c .before .before .before .before in
     let t = r .before in
     let v = t .before .loop .inv in
-    let p = t .before .before .before .before .before .before .pre in
+    let p = t .before .before .before .before .before .pre in
     record {
       fit = p .0;
       state = t .loop-test .taken;
@@ -56,9 +56,9 @@ loop-again : tie.Need-loop-again Inv-loop μ-loop
 loop-again c =
     -- p: the state's places are passed; a: the loop's head
     let p = c .before .before in
-    let r = p .before .before .before .before in
+    let r = p .before .before .before .before .before in
     let a = r .before .before in
-    let l = a .before .before .before .before .before .args .l in
+    let l = a .before .before .before .before .args .l in
     let v = a .loop .inv in (
       omega arith,
       r .range-end .ensures .1,
@@ -72,7 +72,7 @@ same-length c = c .before .loop .inv .3 .as-long
 returns : tie.Need-returns Inv-loop μ-loop
 returns c =
     let a = c .before in
-    let l = a .before .before .before .before .before .args .l in
+    let l = a .before .before .before .before .args .l in
     let e : a .loop .s ≡ l .states = omega arith in
     rw (← e) (a .loop .inv .3)
 
