@@ -6,7 +6,7 @@ use std::io::{BufRead, BufReader, BufWriter, Read, Write};
 use std::process::{Child, ChildStdout, Command, Stdio};
 
 /// As much memory for a plan as the caller has between its fences.
-pub const PLAN_SIZE: usize = 5 * 4_096;
+pub const PLAN_SIZE: usize = 17 * 4_096;
 
 /// Which end of the lent memory touches a fence.
 #[derive(Clone, Copy, PartialEq, Eq)]

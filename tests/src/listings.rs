@@ -27,7 +27,7 @@ struct Seen {
 
 impl Seen {
     fn text(&mut self, text: &str) {
-        self.largest_plan |= text.lines().count() == 4_097;
+        self.largest_plan |= text.lines().count() == 16_385;
         for line in text.lines() {
             let words: Vec<&str> = line.split(' ').collect();
             match words[..] {

@@ -69,7 +69,7 @@ fn median(mut times: Vec<f64>) -> f64 {
 
 fn measure(cases: &mut Cases, name: &'static str, job: &[u8]) -> Line {
     let oracle = Oracle::new(job);
-    let mut plan = vec![0; 16_384];
+    let mut plan = vec![0; 65_536];
     cases.due(&oracle.plan);
     cases.input(0, Side::End, job);
     cases.call(Call::Plan { plan_len: plan.len(), before: 0, side: Side::End }, [0; 5]);
@@ -100,6 +100,8 @@ pub fn bench(date: &str) {
         ("longest", make::longest(SEED)),
         ("deepest, all winning", make::deepest(SEED, Doubt::None)),
         ("deepest, all pending", make::deepest(SEED, Doubt::AtTheEnd)),
+        ("longest tall", make::longest_tall(SEED)),
+        ("deepest tall, all winning", make::deepest_tall(SEED, Doubt::None)),
     ];
     let lines = jobs.each_ref().map(|(name, job)| measure(cases, name, job));
     table::print(&lines, date, REPEATS);

@@ -1,41 +1,79 @@
 //! The planner's own method in plain Rust: rounds over a set of places, with each state's records looked at in turn.
 
-const PLACES: usize = 4_096;
+const PLACES: usize = 16_384;
 
-/// A set of places, one bit each.
+/// A set of places, one bit each, of which a job uses so many words.
 #[derive(Clone, Copy)]
-struct Set([u64; PLACES / 64]);
+struct Set {
+    words: [u64; PLACES / 64],
+    used: usize,
+}
 
 impl Set {
     fn has(&self, place: usize) -> bool {
-        self.0[place / 64] >> (place % 64) & 1 == 1
+        self.words[place / 64] >> (place % 64) & 1 == 1
     }
 
     fn add(&mut self, place: usize) {
-        self.0[place / 64] |= 1 << (place % 64);
+        self.words[place / 64] |= 1 << (place % 64);
     }
 
     fn size(&self) -> u32 {
-        self.0.iter().map(|word| word.count_ones()).sum()
+        self.words[..self.used].iter().map(|word| word.count_ones()).sum()
     }
 }
 
-pub struct Job<'a> {
-    pub states: usize,
-    pub propositions: u8,
-    pub goals: usize,
-    pub labels: &'a [u8],
-    pub moves: &'a [[u8; 3]],
-    pub next: &'a [u8],
-    pub marks: &'a [u8],
+/// A record in one of the two forms.
+trait Record: Copy {
+    fn state(self) -> usize;
+    fn action(self) -> u8;
+    fn outcome(self) -> usize;
+}
+
+impl Record for [u8; 3] {
+    fn state(self) -> usize {
+        self[0].into()
+    }
+
+    fn action(self) -> u8 {
+        self[1]
+    }
+
+    fn outcome(self) -> usize {
+        self[2].into()
+    }
+}
+
+impl Record for [u8; 5] {
+    fn state(self) -> usize {
+        u16::from_le_bytes([self[0], self[1]]).into()
+    }
+
+    fn action(self) -> u8 {
+        self[2]
+    }
+
+    fn outcome(self) -> usize {
+        u16::from_le_bytes([self[3], self[4]]).into()
+    }
+}
+
+struct Job<'a, R> {
+    states: usize,
+    propositions: u8,
+    goals: usize,
+    labels: &'a [u8],
+    moves: &'a [R],
+    next: &'a [u8],
+    marks: &'a [u8],
 }
 
 /// The mark of a busy state, in its label's byte.
 const BUSY: u8 = 128;
 
-impl Job<'_> {
-    pub fn goal_after(&self, goal: usize, outcome: u8) -> usize {
-        let label = self.labels[usize::from(outcome)] & !BUSY;
+impl<R> Job<'_, R> {
+    fn goal_after(&self, goal: usize, outcome: usize) -> usize {
+        let label = self.labels[outcome] & !BUSY;
         usize::from(self.next[(goal << self.propositions) + usize::from(label)])
     }
 
@@ -43,12 +81,12 @@ impl Job<'_> {
         self.marks[place % self.goals] == 1 && self.labels[place / self.goals] & BUSY == 0
     }
 
-    pub fn places(&self) -> usize {
+    fn places(&self) -> usize {
         self.states * self.goals
     }
 
-    fn place_after(&self, goal: usize, outcome: u8) -> usize {
-        usize::from(outcome) * self.goals + self.goal_after(goal, outcome)
+    fn place_after(&self, goal: usize, outcome: usize) -> usize {
+        outcome * self.goals + self.goal_after(goal, outcome)
     }
 }
 
@@ -71,60 +109,66 @@ fn bodies(job: &[u8]) -> Result<[&[u8]; 4], u32> {
         *body = job.get(offset..offset + length).ok_or(2_u32)?;
         end = offset + length;
     }
-    check(end == job.len() && bodies[0].len() == 6, 2)?;
+    check(end == job.len() && [6, 8].contains(&bodies[0].len()), 2)?;
     Ok(bodies)
 }
 
-pub fn read(job: &[u8]) -> Result<Job<'_>, u32> {
-    let [counts, labels, moves, goal] = bodies(job)?;
-    let &[states, actions, propositions, goals, first_state, first_goal] = counts else { return Err(2) };
-    let in_range = (1..=128).contains(&states) && (1..=16).contains(&actions) && propositions <= 6;
+/// The rest of a job, whose Counts are read, with the records as they come.
+fn read<'a, R: Record>(
+    [states, actions, propositions, goals, first_state, first_goal]: [usize; 6],
+    most: [usize; 2],
+    [_, labels, _, goal]: [&'a [u8]; 4],
+    (moves, rest): (&'a [R], &[u8]),
+) -> Result<Job<'a, R>, u32> {
+    let in_range = (1..=most[0]).contains(&states) && (1..=16).contains(&actions) && propositions <= 6;
     check(in_range && (1..=32).contains(&goals) && first_state < states && first_goal < goals, 3)?;
     let small = |&label: &u8| (label & !BUSY) >> propositions == 0;
-    check(labels.len() == usize::from(states) && labels.iter().all(small), 4)?;
-    let (moves, rest) = moves.as_chunks::<3>();
-    check(rest.is_empty() && moves.len() <= 4_096, 5)?;
-    let inside = |one: &[u8; 3]| one[0] < states && one[1] < actions && one[2] < states;
-    let bad = (0..moves.len()).find(|&at| !inside(&moves[at]) || at > 0 && moves[at - 1] >= moves[at]);
-    check(bad.is_none(), bad.map_or(0, |at| if inside(&moves[at]) { 13 } else { 12 }))?;
-    let table = usize::from(goals) << propositions;
-    check(goal.len() == table + usize::from(goals), 6)?;
+    check(labels.len() == states && labels.iter().all(small), 4)?;
+    check(rest.is_empty() && moves.len() <= most[1], 5)?;
+    let inside = |one: R| one.state() < states && usize::from(one.action()) < actions && one.outcome() < states;
+    let key = |one: R| (one.state(), one.action(), one.outcome());
+    let bad = (0..moves.len()).find(|&at| !inside(moves[at]) || at > 0 && key(moves[at - 1]) >= key(moves[at]));
+    check(bad.is_none(), bad.map_or(0, |at| if inside(moves[at]) { 13 } else { 12 }))?;
+    let table = goals << propositions;
+    check(goal.len() == table + goals, 6)?;
     let (next, marks) = goal.split_at(table);
-    check(next.iter().all(|&next| next < goals) && marks.iter().all(|&mark| mark <= 1), 6)?;
-    Ok(Job { states: states.into(), propositions, goals: goals.into(), labels, moves, next, marks })
+    check(next.iter().all(|&next| usize::from(next) < goals) && marks.iter().all(|&mark| mark <= 1), 6)?;
+    Ok(Job { states, propositions: propositions as u8, goals, labels, moves, next, marks })
 }
 
 /// The actions all of whose outcomes lie in the set.
-fn sure(job: &Job, records: &[[u8; 3]], goal: usize, set: &Set) -> u16 {
+fn sure<R: Record>(job: &Job<R>, records: &[R], goal: usize, set: &Set) -> u16 {
     let (mut open, mut bad) = (0_u16, 0_u16);
-    for &[_, action, outcome] in records {
-        open |= 1 << action;
-        bad |= u16::from(!set.has(job.place_after(goal, outcome))) << action;
+    for one in records {
+        open |= 1 << one.action();
+        bad |= u16::from(!set.has(job.place_after(goal, one.outcome()))) << one.action();
     }
     open & !bad
 }
 
 /// The actions with an outcome in the set.
-fn possible(job: &Job, records: &[[u8; 3]], goal: usize, set: &Set) -> u16 {
-    records.iter().fold(0, |actions, &[_, action, outcome]| {
-        actions | u16::from(set.has(job.place_after(goal, outcome))) << action
-    })
+fn possible<R: Record>(job: &Job<R>, records: &[R], goal: usize, set: &Set) -> u16 {
+    records
+        .iter()
+        .fold(0, |actions, one| actions | u16::from(set.has(job.place_after(goal, one.outcome()))) << one.action())
 }
 
 /// Adds places to the set in rounds until its size stays, each with this value and the lowest action that does.
-fn rounds(
-    job: &Job,
+fn rounds<R: Record>(
+    job: &Job<R>,
     plan: &mut [[u8; 4]],
     set: &mut Set,
     value: u8,
-    good: impl Fn(&Job, &[[u8; 3]], usize, &Set) -> u16,
+    good: impl Fn(&Job<R>, &[R], usize, &Set) -> u16,
 ) {
     let mut few = set.size();
     for number in 1_u16.. {
         let before = *set;
-        for (records, state) in job.moves.chunk_by(|one, other| one[0] == other[0]).map(|list| (list, list[0][0])) {
+        for (records, state) in
+            job.moves.chunk_by(|one, other| one.state() == other.state()).map(|list| (list, list[0].state()))
+        {
             for goal in 0..job.goals {
-                let place = usize::from(state) * job.goals + goal;
+                let place = state * job.goals + goal;
                 if before.has(place) {
                     continue;
                 }
@@ -144,14 +188,9 @@ fn rounds(
     }
 }
 
-/// Plans a job into the buffer and gives the refusal, 0 when there is none.
-pub fn plan(job: &[u8], plan: &mut [u8]) -> u32 {
-    let job = match read(job) {
-        Ok(job) => job,
-        Err(refusal) => return refusal,
-    };
-    let Some((plan, _)) = plan.as_chunks_mut::<4>().0.split_at_mut_checked(job.places()) else { return 7 };
-    let mut set = Set([0; PLACES / 64]);
+fn plan_read<R: Record>(job: Job<R>, plan: &mut [u8]) -> Result<(), u32> {
+    let (plan, _) = plan.as_chunks_mut::<4>().0.split_at_mut_checked(job.places()).ok_or(7_u32)?;
+    let mut set = Set { words: [0; PLACES / 64], used: job.places().div_ceil(64) };
     for (place, entry) in plan.iter_mut().enumerate() {
         let accepted = job.accepted(place);
         *entry = if accepted { [2, 255, 0, 0] } else { [0, 255, 0, 0] };
@@ -161,5 +200,26 @@ pub fn plan(job: &[u8], plan: &mut [u8]) -> u32 {
     }
     rounds(&job, plan, &mut set, 2, sure);
     rounds(&job, plan, &mut set, 1, possible);
-    0
+    Ok(())
+}
+
+fn plan_bytes(job: &[u8], plan: &mut [u8]) -> Result<(), u32> {
+    let bodies = bodies(job)?;
+    match *bodies[0] {
+        [s, a, p, q, first, goal] => {
+            let counts = [s, a, p, q, first, goal].map(usize::from);
+            plan_read(read(counts, [128, 4_096], bodies, bodies[2].as_chunks::<3>())?, plan)
+        }
+        [s, s_high, a, p, q, first, first_high, goal] => {
+            let wide = |low, high| u16::from_le_bytes([low, high]);
+            let counts = [wide(s, s_high), a.into(), p.into(), q.into(), wide(first, first_high), goal.into()];
+            plan_read(read(counts.map(usize::from), [512, 8_192], bodies, bodies[2].as_chunks::<5>())?, plan)
+        }
+        _ => Err(2),
+    }
+}
+
+/// Plans a job into the buffer and gives the refusal, 0 when there is none.
+pub fn plan(job: &[u8], plan: &mut [u8]) -> u32 {
+    plan_bytes(job, plan).err().unwrap_or(0)
 }

@@ -71,7 +71,7 @@ impl Trial<'_> {
     fn ask_any(&mut self) {
         let length = self.random.pick(&[0, 1, 47, 48, 200]);
         let plan = self.random.bytes(length);
-        let places = [[0, 0], [128, 32].map(|limit| odd(&mut self.random, limit))];
+        let places = [[0, 0], [512, 32].map(|limit| odd(&mut self.random, limit))];
         self.ask(&plan, &places);
     }
 }

@@ -9,6 +9,7 @@ mod tally;
 
 use crate::brute;
 use crate::cases::{Cases, Side};
+use crate::make;
 use crate::oracle::{Answer, Job, Oracle};
 use crate::random::Random;
 use crate::report::{self, Call, Input};
@@ -51,18 +52,36 @@ impl Desk {
         self.cases.calls.clear();
         self.cases.due(&oracle.plan);
         for side in [Side::End, Side::Begin] {
-            self.cases.input(input.number, side, &input.job);
-            let mut trial = Trial {
-                side,
-                oracle: &oracle,
-                cases: &mut self.cases,
-                random: Random::new(!input.seed, 2 * input.number + u64::from(side == Side::End)),
-                tally: &mut self.tally,
-            };
-            trial.planning();
-            trial.moving();
-            trial.advising();
+            self.all_calls(input, &input.job, side, &oracle);
         }
+        self.in_the_tall_form(input, &oracle);
+    }
+
+    /// Every call on these bytes, held to the oracle's answers.
+    fn all_calls(&mut self, input: &Input, job: &[u8], side: Side, oracle: &Oracle) {
+        self.cases.input(input.number, side, job);
+        let mut trial = Trial {
+            side,
+            oracle,
+            cases: &mut self.cases,
+            random: Random::new(!input.seed, 2 * input.number + u64::from(side == Side::End)),
+            tally: &mut self.tally,
+        };
+        trial.planning();
+        trial.moving();
+        trial.advising();
+    }
+
+    /// A good job of the old form, rewritten in the tall one, has the same plan and gets the same answers.
+    fn in_the_tall_form(&mut self, input: &Input, oracle: &Oracle) {
+        let Ok(Job { tall: false, .. }) = oracle.job else { return };
+        let job = make::in_the_tall_form(&input.job);
+        let same = Oracle::new(&job);
+        if same.refusal() != 0 || same.plan != oracle.plan || same.start() != oracle.start() {
+            report::stop(input, None, "the oracle is wrong: it tells the two forms of a job apart");
+        }
+        self.tally.rewritten += 1;
+        self.all_calls(input, &job, Side::Begin, oracle);
     }
 
     /// On tiny jobs the oracle itself is compared with the meaning of its values and numbers.

@@ -62,7 +62,7 @@ impl Trial<'_> {
     fn follow_odd(&mut self) {
         let (states, actions, goals) = match &self.oracle.job {
             Ok(job) => (job.states, job.actions, job.goals),
-            Err(_) => (128, 16, 32),
+            Err(_) => (512, 16, 32),
         };
         let random = &mut self.random;
         let wild = random.once_in(4);

@@ -7,6 +7,8 @@ use crate::report::Call;
 
 /// So many steps of looking at records are cheap enough to plan several times.
 const CHEAP: usize = 20_000;
+/// So many are planned only once.
+const DEAR: usize = 1_000_000_000;
 
 fn cost(job: &Job, largest: usize) -> usize {
     (largest + 2) * (job.moves.len() + job.states) * job.goals
@@ -32,6 +34,7 @@ impl Trial<'_> {
         let largest = self.oracle.entries.iter().map(|entry| entry.number).max().unwrap_or(0);
         let enough = match self.side {
             _ if cost(job, largest) < CHEAP => vec![longer, need],
+            Side::Begin if cost(job, largest) > DEAR => vec![],
             Side::End => vec![need],
             Side::Begin => vec![longer],
         };

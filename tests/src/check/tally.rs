@@ -19,6 +19,9 @@ pub struct Tally {
     labels_possible: BTreeSet<usize>,
     goals: BTreeSet<usize>,
     pub brute: u64,
+    /// Good jobs that came in the tall form, those of them that the old form has no room for, and old ones that were rewritten.
+    tall: [u64; 2],
+    pub rewritten: u64,
     /// The bad records that were named, with the number that named them.
     records: BTreeSet<(u32, u32)>,
     /// The records that were followed.
@@ -37,6 +40,8 @@ impl Tally {
         if let Ok(job) = &oracle.job {
             self.labels_possible.insert(job.labels_possible);
             self.goals.insert(job.goals);
+            self.tall[0] += u64::from(job.tall);
+            self.tall[1] += u64::from(job.states > 128);
             let held = |place: &usize| job.last[place % job.goals] && job.busy[place / job.goals];
             for place in (0..job.places()).filter(held) {
                 self.busy[usize::from(oracle.entries[place].value)] += 1;
@@ -75,11 +80,13 @@ impl Tally {
         answers == [0, 1, 2, 3, 4, 5, 6, 7, 9, 10, 11, 12, 13]
             && self.entries.iter().all(|&count| count > 0)
             && self.busy.iter().all(|&count| count > 0)
-            && self.largest == 128 * 32 - 1
+            && self.largest == 512 * 32 - 1
+            && self.tall.iter().all(|&count| count > 0)
+            && self.rewritten > 0
             && self.labels_possible.len() == 7
             && self.goals.len() == 32
             && self.brute > 0
-            && [FIELD, ORDER].iter().all(|&number| self.bad(number, |record| record > 99))
+            && [FIELD, ORDER].iter().all(|&number| self.bad(number, |record| record > 4_095))
             && self.bad(FIELD, |record| record == 0)
             && self.bad(ORDER, |record| record == 1)
             && [0, 4_095].iter().all(|record| self.followed.contains(record))
@@ -104,6 +111,11 @@ impl Tally {
         println!("largest number: {}", self.largest);
         let (propositions, goals) = (self.labels_possible.len(), self.goals.len());
         println!("good jobs had {propositions} of 7 counts of propositions, {goals} of 32 counts of goal states");
+        let [tall, wide] = self.tall;
+        println!(
+            "good jobs in the tall form: {tall}, {wide} of them with more than 128 states; old ones rewritten: {}",
+            self.rewritten
+        );
         println!("bad records named: {}", self.records.len());
         println!("different records followed: {}", self.followed.len());
         println!("oracle compared with the meaning itself: {} jobs", self.brute);

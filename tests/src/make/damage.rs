@@ -1,21 +1,23 @@
 //! Faults for good jobs, at least one manner for every way in which a body can be wrong.
 
-use super::parts::{Parts, BUSY};
+use super::parts::{Form, Parts, BUSY};
 use crate::random::Random;
 
 /// Puts one count or first number out of range, sometimes with bodies that fit it.
 fn counts(random: &mut Random, parts: &mut Parts) {
-    let (states, goals) = (parts.counts[0], parts.counts[3]);
+    let (states, goals, most) = (parts.states(), parts.goals(), parts.form().most_states());
     let field = random.below(6);
-    parts.counts[field] = match field {
-        0 => random.pick(&[0, 129, 130, 255]),
+    let value = match field {
+        0 if parts.form() == Form::Old => random.pick(&[0, 129, 130, 255]),
+        0 => random.pick(&[0, 513, 514, 768, 32_768, 65_535]),
         1 => random.pick(&[0, 17, 18, 128, 255]),
         2 => random.pick(&[7, 8, 9, 64, 255]),
         3 => random.pick(&[0, 33, 34, 255]),
-        4 => random.pick(&[states, states.saturating_add(1), 128, 255]),
-        _ => random.pick(&[goals, goals.saturating_add(1), 32, 255]),
+        4 => random.pick(&[states, states + 1, most, 255.max(states), 65_535]),
+        _ => random.pick(&[goals, goals + 1, 32, 255]),
     };
-    if random.once_in(2) {
+    parts.set_count(field, value);
+    if random.once_in(2) && parts.states() <= 1_024 {
         parts.fit();
     }
 }
@@ -37,7 +39,7 @@ fn labels(random: &mut Random, parts: &mut Parts) {
     if parts.labels.is_empty() || random.once_in(3) {
         return length(random, &mut parts.labels);
     }
-    let possible = 1_u8 << parts.counts[2].min(7);
+    let possible = 1_u8 << parts.count(2).min(7);
     let index = random.edge(parts.labels.len());
     let mark = random.pick(&[0, BUSY, parts.labels[index] & BUSY]);
     let too_large = [possible, possible | 1, possible | parts.labels[index], 64, 127];
@@ -45,28 +47,30 @@ fn labels(random: &mut Random, parts: &mut Parts) {
 }
 
 fn moves(random: &mut Random, parts: &mut Parts) {
-    let records = parts.moves.len() / 3;
+    let width = parts.form().width();
+    let records = parts.moves.len() / width;
     if records == 0 || random.once_in(5) {
-        let extra = random.between(1, 7);
-        let length = random.pick(&[parts.moves.len() + extra, parts.moves.len().saturating_sub(extra), 12_291]);
-        return parts.moves.resize(length, 0);
+        let (extra, length) = (random.between(1, 7), parts.moves.len());
+        let lengths = [length + extra, length.saturating_sub(extra), (parts.form().most_moves() + 1) * width];
+        return parts.moves.resize(random.pick(&lengths), 0);
     }
-    let at = 3 * random.edge(records);
-    let other = 3 * random.below(records);
-    let moves = &mut parts.moves;
+    let (record, other) = (random.edge(records), random.below(records));
+    let (at, from) = (width * record, width * other);
+    let (states, actions) = (parts.states(), parts.count(1));
+    let too_large = [states, parts.form().most_states(), 255.max(states), 65_535];
     match random.below(7) {
-        0 => moves[at] = random.pick(&[parts.counts[0], 128, 255]),
-        1 => moves[at + 1] = random.pick(&[parts.counts[1], 16, 255]),
-        2 => moves[at + 2] = random.pick(&[parts.counts[0], 128, 255]),
-        3 => moves.copy_within(other..other + 3, at),
-        4 => (0..3).for_each(|field| moves.swap(at + field, other + field)),
+        0 => parts.set_field(record, 0, random.pick(&too_large)),
+        1 => parts.set_field(record, 1, random.pick(&[actions, 16, 255])),
+        2 => parts.set_field(record, 2, random.pick(&too_large)),
+        3 => parts.moves.copy_within(from..from + width, at),
+        4 => (0..width).for_each(|byte| parts.moves.swap(at + byte, from + byte)),
         5 => {
-            let again = moves[at..at + 3].to_vec();
-            moves.splice(at..at, again);
+            let again = parts.moves[at..at + width].to_vec();
+            parts.moves.splice(at..at, again);
         }
         _ => {
-            let field = at + random.below(3);
-            moves[field] = moves[field].wrapping_sub(1);
+            let byte = at + random.below(width);
+            parts.moves[byte] = parts.moves[byte].wrapping_sub(1);
         }
     }
 }
@@ -77,7 +81,7 @@ fn goal(random: &mut Random, parts: &mut Parts) {
     if table == 0 || marks == 0 || random.once_in(3) {
         return length(random, &mut parts.goal);
     }
-    let goals = parts.counts[3];
+    let goals = parts.goals() as u8;
     if random.once_in(2) {
         let index = random.edge(table);
         parts.goal[index] = random.pick(&[goals, goals.saturating_add(1), 32, 128, 255]);
@@ -103,17 +107,27 @@ fn border(random: &mut Random, parts: &mut Parts) {
     }
 }
 
-/// Spoils one body, or the border of two; Counts keep their six bytes unless a border or length moves.
+/// Gives Counts the length of the other form, and leaves the other bodies as they are or lets them fit.
+fn other_form(random: &mut Random, parts: &mut Parts) {
+    let length = 14 - parts.counts.len();
+    parts.counts.resize(length, 0);
+    if random.once_in(2) && parts.states() <= 1_024 {
+        parts.fit();
+    }
+}
+
+/// Spoils one body, or the border of two; Counts keep their length unless a border, a length or the form moves.
 pub fn spoil(random: &mut Random, parts: &mut Parts) {
-    if parts.counts.len() != 6 {
+    if ![6, 8].contains(&parts.counts.len()) {
         return length(random, &mut parts.counts);
     }
-    match random.below(16) {
+    match random.below(17) {
         0..=2 => counts(random, parts),
         3..=5 => labels(random, parts),
         6..=9 => moves(random, parts),
         10..=12 => goal(random, parts),
         13 => length(random, &mut parts.counts),
+        14 => other_form(random, parts),
         _ => border(random, parts),
     }
 }

@@ -12,23 +12,34 @@ use crate::random::Random;
 use crate::report::Input;
 pub use chain::Doubt;
 use chain::End;
-use parts::Parts;
+use parts::{Form, Parts};
 pub use valid::Size;
 
-const TINY: Size = Size { states: 3, actions: 3, propositions: 2, goals: 3, moves: 7 };
-const SMALL: Size = Size { states: 8, actions: 5, propositions: 3, goals: 6, moves: 24 };
-const MIDDLING: Size = Size { states: 40, actions: 16, propositions: 6, goals: 12, moves: 500 };
-const FULL: Size = Size { states: 128, actions: 16, propositions: 6, goals: 32, moves: 4_096 };
+const TINY: Size = Size { form: Form::Old, states: 3, actions: 3, propositions: 2, goals: 3, moves: 7 };
+const SMALL: Size = Size { form: Form::Old, states: 8, actions: 5, propositions: 3, goals: 6, moves: 24 };
+const MIDDLING: Size = Size { form: Form::Old, states: 40, actions: 16, propositions: 6, goals: 12, moves: 500 };
+const FULL: Size = Size { form: Form::Old, states: 128, actions: 16, propositions: 6, goals: 32, moves: 4_096 };
+const TALL: Size = Size { form: Form::Tall, states: 512, actions: 16, propositions: 6, goals: 32, moves: 8_192 };
 
-/// The longest job there is, 14,518 bytes, with places of every value and some way to go.
-pub fn longest(seed: u64) -> Vec<u8> {
+/// The longest job of a form, with places of every value and some way to go.
+fn longest_of(seed: u64, full: Size, length: usize) -> Vec<u8> {
     let varied = |job: &Vec<u8>| {
         let entries = Oracle::new(job).entries;
         let far = entries.iter().any(|entry| entry.number > 4);
         far && (0..3).all(|value| entries.iter().any(|entry| entry.value == value))
     };
-    let mut jobs = (0..).map(|number| valid::job(&mut Random::new(seed, number), FULL).bytes());
-    jobs.find(|job| job.len() == 14_518 && varied(job)).expect("some number gives such a job")
+    let mut jobs = (0..).map(|number| valid::job(&mut Random::new(seed, number), full).bytes());
+    jobs.find(|job| job.len() == length && varied(job)).expect("some number gives such a job")
+}
+
+/// The longest job of the old form.
+pub fn longest(seed: u64) -> Vec<u8> {
+    longest_of(seed, FULL, 14_518)
+}
+
+/// The longest job there is.
+pub fn longest_tall(seed: u64) -> Vec<u8> {
+    longest_of(seed, TALL, 43_576)
 }
 
 /// As long, with numbers as large as they can be: one place is accepted, and the last number is the count of places less one.
@@ -36,8 +47,18 @@ pub fn deepest(seed: u64, doubt: Doubt) -> Vec<u8> {
     chain::job(&mut Random::new(seed, 1), FULL, doubt, End::OnePlace).bytes()
 }
 
+/// The same in the tall form.
+pub fn deepest_tall(seed: u64, doubt: Doubt) -> Vec<u8> {
+    chain::job(&mut Random::new(seed, 1), TALL, doubt, End::OnePlace).bytes()
+}
+
+/// A good job of the old form, rewritten in the tall one.
+pub fn in_the_tall_form(job: &[u8]) -> Vec<u8> {
+    Parts::of(job).in_the_tall_form().bytes()
+}
+
 pub fn middling(seed: u64) -> Vec<u8> {
-    let size = Size { states: 32, actions: 8, propositions: 3, goals: 8, moves: 512 };
+    let size = Size { form: Form::Old, states: 32, actions: 8, propositions: 3, goals: 8, moves: 512 };
     chain::job(&mut Random::new(seed, 2), size, Doubt::Somewhere, End::AnyState).bytes()
 }
 
@@ -46,14 +67,16 @@ pub fn listed(seed: u64, number: u64) -> Vec<u8> {
     let random = &mut Random::new(!seed, number);
     match number % 6 {
         0 => {
-            let moves = random.between(0, 2_000);
-            valid::job(random, Size { moves, ..FULL }).bytes()
+            let (full, moves) = (random.pick(&[FULL, TALL]), random.between(0, 2_000));
+            valid::job(random, Size { moves, ..full }).bytes()
         }
         1 => {
             let (states, moves) = (random.between(33, 48), random.between(50, 200));
             let doubt = random.pick(&[Doubt::None, Doubt::AtTheEnd, Doubt::Somewhere]);
             let end = random.pick(&[End::AnyState, End::OnePlace]);
-            chain::job(random, Size { states, actions: 16, propositions: 1, goals: 32, moves }, doubt, end).bytes()
+            let form = random.pick(&[Form::Old, Form::Tall]);
+            chain::job(random, Size { form, states, actions: 16, propositions: 1, goals: 32, moves }, doubt, end)
+                .bytes()
         }
         2 => chained(random),
         3 => {
@@ -80,11 +103,17 @@ impl Inputs {
             ("longest", longest(seed)),
             ("deepest", deepest(seed, Doubt::None)),
             ("deepest", deepest(seed, Doubt::AtTheEnd)),
+            ("longest tall", longest_tall(seed)),
+            ("deepest tall", deepest_tall(seed, Doubt::AtTheEnd)),
         ];
         fixed.extend((1..16).map(|states| ("One plate with busy states", known::busy_plate(states))));
         fixed.extend(known::edges().into_iter().map(|(job, _)| ("edge", job)));
         fixed.extend(changes().into_iter().map(|job| ("One plate, one byte changed", job)));
         fixed.extend(other_lengths().into_iter().map(|job| ("One plate, cut or longer", job)));
+        let tall_plate = in_the_tall_form(&known::one_plate());
+        fixed.extend(
+            changes_of(&tall_plate).into_iter().map(|job| ("One plate in the tall form, one byte changed", job)),
+        );
         Inputs { seed, fixed }
     }
 
@@ -104,11 +133,14 @@ impl Inputs {
 
 /// Every other value of every byte of One plate.
 fn changes() -> Vec<Vec<u8>> {
-    let plate = known::one_plate();
+    changes_of(&known::one_plate())
+}
+
+fn changes_of(plate: &[u8]) -> Vec<Vec<u8>> {
     let mut jobs = Vec::new();
     for at in 0..plate.len() {
         for value in (0..=255).filter(|&value| value != plate[at]) {
-            let mut job = plate.clone();
+            let mut job = plate.to_vec();
             job[at] = value;
             jobs.push(job);
         }
@@ -132,9 +164,10 @@ fn sound(random: &mut Random) -> Parts {
         0 => FULL,
         1..=5 => MIDDLING,
         6..=150 => TINY,
+        151 => TALL,
         _ => SMALL,
     };
-    let size = limit.upto(random);
+    let size = limit.upto(random).in_a_form(random);
     valid::job(random, size)
 }
 
@@ -142,28 +175,31 @@ fn chained(random: &mut Random) -> Vec<u8> {
     let doubt = random.pick(&[Doubt::None, Doubt::AtTheEnd, Doubt::Somewhere]);
     let wide = random.once_in(60);
     let limit = Size {
+        form: Form::Old,
         states: if wide { 40 } else { 9 },
         actions: 16,
         propositions: 6,
         goals: if wide { 16 } else { 32 },
         moves: if wide { 160 } else { 40 },
     };
-    let size = limit.upto(random);
+    let size = limit.upto(random).in_a_form(random);
     let end = random.pick(&[End::AnyState, End::OnePlace]);
     chain::job(random, size, doubt, end).bytes()
 }
 
 /// Any counts at all, with moves that stay few.
 fn any_counts(random: &mut Random) -> Vec<u8> {
-    let size = Size { moves: 60, ..FULL }.upto(random);
+    let full = random.pick(&[FULL, TALL]);
+    let size = Size { moves: 60, ..full }.upto(random);
     valid::job(random, size).bytes()
 }
 
 fn large(random: &mut Random) -> Vec<u8> {
-    let states = random.pick(&[16, 64, 127, 128, 128]);
+    let form = random.pick(&[Form::Old, Form::Tall]);
+    let states = random.pick(&[16, 64, 127, form.most_states(), form.most_states()]);
     let goals = random.pick(&[1, 16, 31, 32, 32]);
-    let moves = random.pick(&[0, 1_000, 4_095, 4_096, 4_096]);
-    let size = Size { states, actions: random.pick(&[1, 7, 16]), propositions: random.below(7), goals, moves };
+    let moves = random.pick(&[0, 1_000, form.most_moves() - 1, form.most_moves(), form.most_moves()]);
+    let size = Size { form, states, actions: random.pick(&[1, 7, 16]), propositions: random.below(7), goals, moves };
     valid::job(random, size).bytes()
 }
 
@@ -189,7 +225,7 @@ fn changed(random: &mut Random) -> Vec<u8> {
 /// One input by chance, with its kind.
 fn mixed(random: &mut Random) -> (&'static str, Vec<u8>) {
     let sized = |random: &mut Random, limit: Size| {
-        let size = limit.upto(random);
+        let size = limit.upto(random).in_a_form(random);
         valid::job(random, size).bytes()
     };
     match random.below(1_000) {

@@ -1,11 +1,12 @@
 //! Good jobs of every shape: any counts, moves in several manners, goals in several manners.
 
-use super::parts::{Parts, BUSY};
+use super::parts::{Form, Parts, Record, BUSY};
 use crate::random::Random;
 
 /// What a good job is to have; the moves are at most so many.
 #[derive(Clone, Copy)]
 pub struct Size {
+    pub form: Form,
     pub states: usize,
     pub actions: usize,
     pub propositions: usize,
@@ -17,12 +18,19 @@ impl Size {
     /// Any size up to this one.
     pub fn upto(self, random: &mut Random) -> Size {
         Size {
+            form: self.form,
             states: random.between(1, self.states),
             actions: random.between(1, self.actions),
             propositions: random.between(0, self.propositions),
             goals: random.between(1, self.goals),
             moves: random.between(0, self.moves),
         }
+    }
+
+    /// In either form; many states ask for the tall one.
+    pub fn in_a_form(self, random: &mut Random) -> Size {
+        let tall = self.states > Form::Old.most_states() || random.once_in(3);
+        Size { form: if tall { Form::Tall } else { Form::Old }, ..self }
     }
 }
 
@@ -40,7 +48,7 @@ fn labels(random: &mut Random, size: Size) -> Vec<u8> {
 }
 
 /// Sorts the records, drops doubles and leaves at most so many, taken from everywhere.
-pub fn in_order(random: &mut Random, mut records: Vec<[u8; 3]>, most: usize) -> Vec<u8> {
+pub fn in_order(random: &mut Random, mut records: Vec<Record>, most: usize) -> Vec<Record> {
     records.sort_unstable();
     records.dedup();
     if records.len() > most {
@@ -48,33 +56,34 @@ pub fn in_order(random: &mut Random, mut records: Vec<[u8; 3]>, most: usize) -> 
         records.truncate(most);
         records.sort_unstable();
     }
-    records.concat()
+    records
 }
 
-fn all_records(size: Size) -> Vec<[u8; 3]> {
-    let outcomes =
-        |state: usize, action: usize| (0..size.states).map(move |outcome| [state as u8, action as u8, outcome as u8]);
+fn all_records(size: Size) -> Vec<Record> {
+    let outcomes = |state: usize, action: usize| {
+        (0..size.states).map(move |outcome| [state as u16, action as u16, outcome as u16])
+    };
     let actions = |state: usize| (0..size.actions).flat_map(move |action| outcomes(state, action));
     (0..size.states).flat_map(actions).collect()
 }
 
 /// One record in the given manner: anywhere, to itself, to a neighbour, or only from the lower half of the states.
-fn record(random: &mut Random, size: Size, manner: usize) -> [u8; 3] {
+fn record(random: &mut Random, size: Size, manner: usize) -> Record {
     let state = if manner == 3 { random.below(size.states.div_ceil(2)) } else { random.below(size.states) };
     let outcome = match manner {
         1 if !random.once_in(4) => state,
         2 => (state + random.below(3) + size.states - 1) % size.states,
         _ => random.below(size.states),
     };
-    [state as u8, random.below(size.actions) as u8, outcome as u8]
+    [state as u16, random.below(size.actions) as u16, outcome as u16]
 }
 
-fn moves(random: &mut Random, size: Size) -> Vec<u8> {
+fn moves(random: &mut Random, size: Size) -> Vec<Record> {
     let records = match random.below(10) {
-        0 => all_records(size),
+        0 if size.states <= 128 => all_records(size),
         // Every action has at most one outcome.
         1 | 2 => {
-            let mut single: Vec<[u8; 3]> = (0..size.moves).map(|_| record(random, size, 0)).collect();
+            let mut single: Vec<Record> = (0..size.moves).map(|_| record(random, size, 0)).collect();
             single.sort_unstable();
             single.dedup_by_key(|one| [one[0], one[1]]);
             single
@@ -122,9 +131,9 @@ pub fn job(random: &mut Random, size: Size) -> Parts {
     }
     goal.extend(marks(random, size));
     Parts {
-        counts: counts.iter().map(|&count| count as u8).collect(),
+        counts: size.form.counts(counts),
         labels: labels(random, size),
-        moves: moves(random, size),
+        moves: size.form.records(&moves(random, size)),
         goal,
     }
 }

@@ -12,10 +12,11 @@ pub fn bytes(random: &mut Random) -> Vec<u8> {
         let limit = random.pick(&[2, 3, 4, 8]);
         job.iter_mut().for_each(|byte| *byte %= limit);
     }
-    if manner > 1 && length >= 22 {
-        let labels = random.below(length - 21);
-        let moves = random.below(length - 21 - labels);
-        job[..16].copy_from_slice(&contents([6, labels, moves, length - 22 - labels - moves]));
+    let counts = random.pick(&[6, 8]);
+    if manner > 1 && length >= 16 + counts {
+        let labels = random.below(length - 15 - counts);
+        let moves = random.below(length - 15 - counts - labels);
+        job[..16].copy_from_slice(&contents([counts, labels, moves, length - 16 - counts - labels - moves]));
     }
     job
 }
@@ -23,7 +24,7 @@ pub fn bytes(random: &mut Random) -> Vec<u8> {
 /// A good job with one body stretched until the job ends near 65,535, or well beyond it.
 fn stretched(random: &mut Random, mut parts: Parts) -> Vec<u8> {
     let length = parts.bytes().len();
-    let aim = random.pick(&[16_384, 16_385, 40_000, 65_532, 65_533, 65_534, 65_535, 65_536, 65_537, 69_999]);
+    let aim = random.pick(&[16_385, 49_152, 49_153, 60_000, 65_532, 65_533, 65_534, 65_535, 65_536, 65_537, 69_999]);
     let more = aim.max(length) - length;
     let body = random.below(4);
     let filling = random.pick(&[0, 0, 1, 255]);
@@ -35,12 +36,13 @@ fn stretched(random: &mut Random, mut parts: Parts) -> Vec<u8> {
 /// A good job whose contents run over 65,535 and come back to its true end when cut to two bytes.
 fn wrapped(random: &mut Random, parts: Parts) -> Vec<u8> {
     let mut job = parts.bytes();
-    let bodies = job.len() - 22;
+    let counts = parts.counts.len();
+    let bodies = job.len() - 16 - counts;
     let any = [random.below(65_536), random.below(65_536)];
     let labels = random.pick(&[parts.labels.len(), 65_535, 65_514, any[0]]);
-    let moves = random.pick(&[parts.moves.len(), 65_535, 12_288, any[1]]);
+    let moves = random.pick(&[parts.moves.len(), 65_535, 12_288, 40_960, any[1]]);
     let goal = (bodies + 2 * 65_536 - labels - moves) % 65_536;
-    job[..16].copy_from_slice(&contents([6, labels, moves, goal]));
+    job[..16].copy_from_slice(&contents([counts, labels, moves, goal]));
     job
 }
 

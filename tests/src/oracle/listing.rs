@@ -3,7 +3,7 @@
 use super::{Entry, Job, Oracle, Refused, FIELD, LOSING, ORDER, PENDING, WRONG};
 
 /// As many bytes as the listing program takes in.
-pub const TAKEN: usize = 16_384;
+pub const TAKEN: usize = 49_152;
 
 fn word(value: u8) -> &'static str {
     match value {

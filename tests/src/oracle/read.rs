@@ -11,6 +11,8 @@ pub struct Move {
 }
 
 pub struct Job {
+    /// Whether it came in the tall form.
+    pub tall: bool,
     pub states: usize,
     pub actions: usize,
     pub labels_possible: usize,
@@ -74,22 +76,30 @@ fn bodies(job: &[u8]) -> Result<[&[u8]; 4], u32> {
         *body = &job[end..end + length];
         end += length;
     }
-    if end != job.len() || bodies[0].len() != 6 {
+    if end != job.len() || ![6, 8].contains(&bodies[0].len()) {
         return Err(CONTENTS);
     }
     Ok(bodies)
 }
 
+/// The six counts; eight bytes are those of a tall job, whose states take two.
 fn read_counts(body: &[u8]) -> Result<[usize; 6], u32> {
-    let count = |index: usize| usize::from(body[index]);
-    let (states, goals) = (count(0), count(3));
-    let good = (1..=128).contains(&states)
-        && (1..=16).contains(&count(1))
-        && count(2) <= 6
+    let two = |low: u8, high: u8| usize::from(low) + 256 * usize::from(high);
+    let (counts, most) = match *body {
+        [s, a, p, q, first, goal] => ([s, a, p, q, first, goal].map(usize::from), 128),
+        [s, s_high, a, p, q, first, first_high, goal] => {
+            let [a, p, q, goal] = [a, p, q, goal].map(usize::from);
+            ([two(s, s_high), a, p, q, two(first, first_high), goal], 512)
+        }
+        _ => return Err(CONTENTS),
+    };
+    let [states, actions, propositions, goals, first_state, first_goal] = counts;
+    let good = (1..=most).contains(&states)
+        && (1..=16).contains(&actions)
+        && propositions <= 6
         && (1..=32).contains(&goals)
-        && count(4) < states
-        && count(5) < goals;
-    let counts = [states, count(1), count(2), goals, count(4), count(5)];
+        && first_state < states
+        && first_goal < goals;
     good.then_some(counts).ok_or(COUNTS)
 }
 
@@ -101,12 +111,20 @@ fn read_labels(body: &[u8], states: usize, possible: usize) -> Result<(Vec<usize
     good.then_some((labels, busy)).ok_or(LABELS)
 }
 
-fn read_moves(body: &[u8], states: usize, actions: usize) -> Result<Vec<Move>, Refused> {
-    if !body.len().is_multiple_of(3) || body.len() > 12_288 {
+fn read_moves(body: &[u8], tall: bool, states: usize, actions: usize) -> Result<Vec<Move>, Refused> {
+    let (width, most) = if tall { (5, 40_960) } else { (3, 12_288) };
+    if !body.len().is_multiple_of(width) || body.len() > most {
         return Err(MOVES.into());
     }
-    let record = |at: &[u8]| Move { state: at[0].into(), action: at[1].into(), outcome: at[2].into() };
-    let moves: Vec<Move> = body.chunks(3).map(record).collect();
+    let record = |at: &[u8]| match *at {
+        [state, state_high, action, outcome, outcome_high] => Move {
+            state: u16::from_le_bytes([state, state_high]).into(),
+            action: action.into(),
+            outcome: u16::from_le_bytes([outcome, outcome_high]).into(),
+        },
+        _ => Move { state: at[0].into(), action: at[1].into(), outcome: at[2].into() },
+    };
+    let moves: Vec<Move> = body.chunks(width).map(record).collect();
     let inside = |one: &Move| one.state < states && one.action < actions && one.outcome < states;
     for (record, one) in moves.iter().enumerate() {
         let number = if !inside(one) {
@@ -134,14 +152,16 @@ fn read_goal(body: &[u8], goals: usize, possible: usize) -> Result<(Vec<usize>, 
 
 pub fn read(job: &[u8]) -> Result<Job, Refused> {
     let [counts, labels, moves, goal] = bodies(job)?;
+    let tall = counts.len() == 8;
     let [states, actions, propositions, goals, first_state, first_goal] = read_counts(counts)?;
     let labels_possible = 1 << propositions;
     let (labels, busy) = read_labels(labels, states, labels_possible)?;
-    let moves = read_moves(moves, states, actions)?;
+    let moves = read_moves(moves, tall, states, actions)?;
     let (next, last) = read_goal(goal, goals, labels_possible)?;
     let before = |state: usize| moves.partition_point(|record| record.state < state);
     let of_state = (0..states).map(|state| before(state)..before(state + 1)).collect();
     Ok(Job {
+        tall,
         states,
         actions,
         labels_possible,
