@@ -61,6 +61,7 @@ build/libcabinet.a: crates.txt $(shell find crates) $(shell command -v rt 2>/dev
 examples: lib need-cc
 	@$(call c_program,examples/plate.c,build/plate)
 	@$(call c_program,examples/goal.c,build/goal)
+	@$(call c_program,examples/tall.c,build/tall)
 
 # The program that makes the calls of the tests, over the archive, and the independent planner with the many inputs.
 tests: lib need-cc need-cargo
@@ -72,9 +73,12 @@ try-examples: examples
 	@diff examples/plate.out build/plate.out
 	@$(RUN) build/goal >build/goal.out
 	@diff examples/goal.out build/goal.out
+	@$(RUN) build/tall build/tall.job >build/tall.out
+	@diff examples/tall.out build/tall.out
+	@cmp examples/tall.job build/tall.job
 	@echo '#include "cabinet.h"' >build/header.cc
 	@$(CC) -x c++ -std=c++11 $(WARNINGS) -Iinclude -fsyntax-only build/header.cc
-	@echo "examples: One plate plays as stored, also with a goal from slips, and the header is C++ too"
+	@echo "examples: One plate plays as stored, also with a goal from slips, and so does a tall cabinet; the header is C++ too"
 
 try-inputs: tests
 	@$(TESTS) run

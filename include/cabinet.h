@@ -8,6 +8,20 @@
    goal state is final and the state is not busy. A final goal state in a busy state makes a place like any other: it has an action and a
    number, or is lost where nothing is open. The goal's automaton reads the label without the mark.
 
+   A job comes in one of two forms, which the length of Counts in the contents tells apart: 6 is the old form and 8 the tall one. All numbers of
+   two bytes are low byte first.
+
+     contents  16 bytes: for Counts, Labels, Moves and Goal in this order an offset from the job's start and a length, two bytes each. The bodies
+               follow in this order with no gap, the first at 16, and the last ends where the job ends
+     Counts    old, 6 bytes: S, A, P, Q, first state, first goal state, a byte each. Tall, 8 bytes: the same, S and the first state of two bytes each.
+               S is 1 to 128, in the tall form 1 to 512; A is 1 to 16, P 0 to 6, Q 1 to 32
+     Labels    S bytes: bit i of a state's label says whether proposition i is true there
+     Moves     records in ascending order, each once: state, action, outcome. Old: a byte each, at most 4,096 records. Tall: the state and the outcome of
+               two bytes each, five bytes a record, at most 8,192 records. Their order is that of their numbers in both forms: 255 comes before 256
+     Goal      for goal state q and label l the next goal state at q * 2^P + l, then for each goal state a mark, 1 where it is final
+
+   What a job means does not depend on its form. A small job may come in the tall form, and a job that is rewritten gets the same plan and the same answers.
+
    The library needs no heap, keeps nothing between calls, and takes every input: what is bad is refused by number, the first fault
    first. A refusal changes nothing in the buffer that you lend for a plan or a goal.
 
@@ -27,9 +41,10 @@
 extern "C" {
 #endif
 
-/* The longest job that is not refused, and the longest plan: 4 bytes for each of 128 states with each of 32 goal states. */
-#define CABINET_JOB_MAX 14518
-#define CABINET_PLAN_MAX 16384
+/* The longest job that is not refused, and the longest plan: 4 bytes for each of 512 states with each of 32 goal states. Of the old form the
+   longest job has 14,518 bytes and the longest plan 16,384. */
+#define CABINET_JOB_MAX 43576
+#define CABINET_PLAN_MAX 65536
 
 /* What is added to the label of a busy state. */
 #define CABINET_BUSY 128
@@ -42,10 +57,10 @@ extern "C" {
 enum cabinet_refusal {
   CABINET_OK = 0,
   CABINET_SHORT = 1,       /* the job is under 16 bytes */
-  CABINET_CONTENTS = 2,    /* an offset or end breaks the job's layout, or Counts is not 6 bytes long */
-  CABINET_COUNTS = 3,      /* a count or a first number is out of range */
+  CABINET_CONTENTS = 2,    /* an offset or end breaks the job's layout, or Counts is neither 6 nor 8 bytes long */
+  CABINET_COUNTS = 3,      /* a count or a first number is out of the range of the job's form */
   CABINET_LABELS = 4,      /* not one label a state, or a label that without its mark is 2^P or more */
-  CABINET_MOVES = 5,       /* Moves is not whole records, or has more than 4,096 */
+  CABINET_MOVES = 5,       /* Moves is not whole records of the form, or has more than 4,096, in the tall form 8,192 */
   CABINET_FIELD = 12,      /* a field of a record is out of range; `record` says which */
   CABINET_ORDER = 13,      /* a record does not come after the one before it, compared field by field; `record` says which */
   CABINET_GOAL = 6,        /* Goal has the wrong length, a goal state is not below Q, or a mark is above 1 */
@@ -78,7 +93,7 @@ enum cabinet_value {
 #define CABINET_NO_ACTION 255
 
 /* The answers. The refusal comes first; where it is not 0, every other figure is 0, save the place with 16, and `record` with 12 and 13: the number of the first
-   bad record of Moves, counted from 0 at the front, so that its fields are bytes 3 * record to 3 * record + 2 of Moves. All records before
+   bad record of Moves, counted from 0 at the front, so that its fields begin at byte 3 * record of Moves, in the tall form at 5 * record. All records before
    it are good. Each is judged by its fields and then by its order, so 13 says that its fields are in range, and never names record 0. With
    every other refusal, and on success, `record` is 0, save where `cabinet_follow` succeeds: it is then the record that was followed. */
 typedef struct {
