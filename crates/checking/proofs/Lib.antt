@@ -5,3 +5,4 @@ pub mod Judging
 pub mod Answering
 pub mod Known
 pub mod Demands
+pub mod Same

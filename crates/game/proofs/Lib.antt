@@ -8,6 +8,7 @@ pub mod Plays
 pub mod Values
 pub mod Hopes
 pub mod Right
+pub mod Alike
 pub mod Bounds
 pub mod Following
 pub mod Visiting

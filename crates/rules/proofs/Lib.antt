@@ -6,6 +6,7 @@ pub mod Judged
 pub mod Faults
 pub mod Numbers
 pub mod Kept
+pub mod Limits
 pub mod Labels
 pub mod Arenas
 pub mod Recorded
@@ -18,4 +19,6 @@ pub mod Planned
 pub mod Followed
 pub mod Entries
 pub mod Existing
+pub mod Retelling
+pub mod Same
 pub mod Marked

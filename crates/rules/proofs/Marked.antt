@@ -1,15 +1,16 @@
--- The marked cases of document 01, and those with a busy state, each shown from the job's bytes to the plan's.
+-- The marked cases of document 01, and those with a busy state, each shown from the job's bytes to the plan's; and the edges of the two forms.
 use mathlib.Core.Bool.{Bool, true, _&&_}
-use mathlib.Core.List.{List·Memᴰ}
+use mathlib.Core.List.{[], _∷_, List·Memᴰ}
 use mathlib.Core.Path.{_≡_, refl, sym}
 use lib.Dec.{eqb}
 use lib.ListN.{set}
 use Rattle.game.specs.Game.{says}
 use Rattle.rules.specs.Job.{place, start, arena}
-use Rattle.rules.specs.Fault.{with-record}
+use Rattle.rules.specs.Fault.{only, with-record}
 use Rattle.rules.specs.Bytes.{fault, refusal, said}
 use Rattle.rules.specs.Calls.{is-place}
-use Rattle.rules.specs.Examples.{plate, early, Case, marked, busy-marked, CaseHolds}
+use Rattle.rules.specs.Examples.{plate, tall-plate, early, plain-with, tall-300, Case, marked, busy-marked, CaseHolds}
+use Rattle.rules.specs.Retold.{retold}
 use Rattle.game.specs.declared.entry.Entry.{Entry}
 use Rattle.game.proofs.Lists.{every, every-at, some, sure}
 use Rattle.game.proofs.Search.{lowest}
@@ -84,3 +85,35 @@ plate-starts = refl
 
 pub early-starts : start (said early) ≡ place 0 1
 early-starts = refl
+
+-- One plate rewritten in the tall form has the bytes that it should
+pub plate-retold : retold plate ≡ tall-plate
+plate-retold = refl
+
+-- with more states than a byte can count, each number of two bytes is read whole: the counts, and the moves, whose outcomes 255 and 256 are
+-- in order by their numbers, though not by their bytes
+pub tall-reads : let j = said (tall-300 255 0 0 1) in
+    (fault (tall-300 255 0 0 1) ≡ only 0)
+    × (j .states ≡ 300)
+    × (j .actions ≡ 2)
+    × (j .propositions ≡ 0)
+    × (j .goals ≡ 1)
+    × (j .first ≡ 299)
+    × (j .first-goal ≡ 0)
+    × (j .records ≡ 2)
+    × (j .move 0 ≡ record { state = 299; action = 0; outcome = 255 })
+    × (j .move 1 ≡ record { state = 299; action = 0; outcome = 256 })
+tall-reads = (refl, refl, refl, refl, refl, refl, refl, refl, refl, refl)
+
+-- and the edges of the two forms: 256 before 255; Counts 7 long; 129 states in the old form, and 513 in the tall one; Moves of three bytes in the
+-- tall form, and of five in the old one
+pub form-faults :
+    (fault (tall-300 0 1 255 0) ≡ with-record 13 1)
+    × (fault (plain-with 1 (1 ∷ 1 ∷ 0 ∷ 1 ∷ 0 ∷ 0 ∷ 0 ∷ []) []) ≡ only 2)
+    × (fault (plain-with 128 (128 ∷ 1 ∷ 0 ∷ 1 ∷ 0 ∷ 0 ∷ []) []) ≡ only 0)
+    × (fault (plain-with 129 (129 ∷ 1 ∷ 0 ∷ 1 ∷ 0 ∷ 0 ∷ []) []) ≡ only 3)
+    × (fault (plain-with 512 (0 ∷ 2 ∷ 1 ∷ 0 ∷ 1 ∷ 255 ∷ 1 ∷ 0 ∷ []) []) ≡ only 0)
+    × (fault (plain-with 513 (1 ∷ 2 ∷ 1 ∷ 0 ∷ 1 ∷ 255 ∷ 1 ∷ 0 ∷ []) []) ≡ only 3)
+    × (fault (plain-with 1 (1 ∷ 0 ∷ 1 ∷ 0 ∷ 1 ∷ 0 ∷ 0 ∷ 0 ∷ []) (0 ∷ 0 ∷ 0 ∷ [])) ≡ only 5)
+    × (fault (plain-with 1 (1 ∷ 1 ∷ 0 ∷ 1 ∷ 0 ∷ 0 ∷ []) (0 ∷ 0 ∷ 0 ∷ 0 ∷ 0 ∷ [])) ≡ only 5)
+form-faults = (refl, refl, refl, refl, refl, refl, refl, refl)

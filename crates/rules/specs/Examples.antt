@@ -1,13 +1,15 @@
--- The worked jobs of document 01, in bytes: One plate, Bare with either mark, and Early; and the fifteen marked cases.
+-- The worked jobs of document 01, in bytes: One plate, Bare with either mark, and Early; and the fifteen marked cases. And jobs of the tall
+-- form.
 use Prim.Native.Nat.{ℕ, _≤_}
 use mathlib.Core.List.{List, [], _∷_}
 use mathlib.Core.Path.{_≡_}
-use lib.ListN.{length}
+use lib.ListN.{length, replicate}
 use Rattle.game.specs.Game.{says, Inside}
 use Rattle.rules.specs.Job.{place, entry-number, arena}
 use Rattle.rules.specs.Fault.{Fault, only}
 use Rattle.rules.specs.Bytes.{said}
 use Rattle.rules.specs.Keeps.{Keeps}
+use Rattle.rules.specs.Retold.{job-of}
 use Rattle.rules.specs.Plan.{entry, room}
 use Rattle.rules.specs.Calls.{Planning}
 use Rattle.rules.specs.declared.place.Place.{Place}
@@ -47,6 +49,24 @@ early =
     ∷ 1 ∷ 1 ∷ 0 ∷ 2 ∷ 0 ∷ 0
     ∷ 0
     ∷ 1 ∷ 1 ∷ 1 ∷ 0 ∷ []
+
+-- One plate in the tall form
+abbrev pub tall-plate : List ℕ
+tall-plate =
+    0x10 ∷ 0 ∷ 0x08 ∷ 0 ∷ 0x18 ∷ 0 ∷ 0x04 ∷ 0 ∷ 0x1c ∷ 0 ∷ 0x1e ∷ 0 ∷ 0x3a ∷ 0 ∷ 0x0f ∷ 0
+    ∷ 4 ∷ 0 ∷ 3 ∷ 2 ∷ 3 ∷ 0 ∷ 0 ∷ 0
+    ∷ 2 ∷ 0 ∷ 1 ∷ 0
+    ∷ 0 ∷ 0 ∷ 0 ∷ 1 ∷ 0 ∷ 0 ∷ 0 ∷ 0 ∷ 3 ∷ 0 ∷ 1 ∷ 0 ∷ 1 ∷ 1 ∷ 0 ∷ 1 ∷ 0 ∷ 1 ∷ 2 ∷ 0 ∷ 1 ∷ 0 ∷ 2 ∷ 0 ∷ 0 ∷ 2 ∷ 0 ∷ 2 ∷ 0 ∷ 0
+    ∷ 0 ∷ 1 ∷ 0 ∷ 1 ∷ 1 ∷ 1 ∷ 2 ∷ 2 ∷ 2 ∷ 2 ∷ 2 ∷ 2 ∷ 0 ∷ 0 ∷ 1 ∷ []
+
+-- s states, with these bytes of Counts and of Moves; no label has a proposition, and the one goal state is final
+abbrev pub plain-with : ℕ → List ℕ → List ℕ → List ℕ
+plain-with s c m = job-of c (replicate s 0) m (0 ∷ 1 ∷ [])
+
+-- 300 states in the tall form, and two moves by the bytes of their outcomes, from the first state to states above 127
+abbrev pub tall-300 : ℕ → ℕ → ℕ → ℕ → List ℕ
+tall-300 a b c d =
+    plain-with 300 (44 ∷ 1 ∷ 2 ∷ 0 ∷ 1 ∷ 43 ∷ 1 ∷ 0 ∷ []) (43 ∷ 1 ∷ 0 ∷ a ∷ b ∷ 43 ∷ 1 ∷ 0 ∷ c ∷ d ∷ [])
 
 -- The marked cases: of this job, the plan says at this place this.
 pub record Case : Type 0 where

@@ -5,6 +5,7 @@ pub mod Form
 pub mod Bytes
 pub mod Keeps
 pub mod BadRecord
+pub mod Retold
 pub mod Answers
 pub mod Plan
 pub mod Calls
