@@ -1,18 +1,22 @@
 -- What is printed is fixed by the job: the refusal's line alone, or the listing of the plan; of One plate it is document 01's text.
 use Prim.Native.Nat.{ℕ, _≤_}
-use mathlib.Core.List.{List}
-use mathlib.Core.Path.{_≡_, refl, ap}
+use mathlib.Core.List.{List, _++_}
+use mathlib.Core.Path.{_≡_, refl, sym, ap, subst}
 use native.Mathlib.Omega.{arith}
 use lib.ListN.{length}
 use Rattle.rules.specs.Fault.{Fault, only}
 use Rattle.rules.specs.Bytes.{fault, refusal, said}
 use Rattle.rules.specs.Keeps.{Keeps}
-use Rattle.rules.specs.Plan.{room}
+use Rattle.rules.specs.Job.{place, entry-number}
+use Rattle.rules.specs.Plan.{entry, room}
+use Rattle.rules.specs.Retold.{retold}
 use Rattle.rules.specs.Calls.{Planning, refused, no-room, overrun, planned}
 use Rattle.rules.proofs.Kept.{kept, places-few}
 use Rattle.rules.proofs.Unique.{planning-unique, no-overrun}
-use Rattle.text.specs.Lines.{refusal-line}
-use Rattle.listing.specs.Listing.{listing, Prints, refuses, lists}
+use Rattle.rules.proofs.Retelling.{retold-same, retold-keeps}
+use Rattle.rules.proofs.Same.{same-start, same-planning}
+use Rattle.text.specs.Lines.{entry-line, start-line, refusal-line}
+use Rattle.listing.specs.Listing.{lines, listing, Prints, refuses, lists}
 use Rattle.listing.proofs.Listings.{keeps}
 
 -- Two texts that may be printed of one job are the same.
@@ -42,3 +46,19 @@ prints-refusal n (refuses (no-room e l) z) = absurd (n e)
 prints-refusal n (refuses (overrun e l o) z) = absurd (n e)
 prints-refusal n (refuses (planned e l o p) z) = absurd (n e)
 prints-refusal {b} n (lists d) = absurd (n (kept b .1 (keeps d)))
+
+-- ---- Of a job rewritten in the tall form the same text is printed.
+
+module _ {b : List ℕ} (k : Keeps b) where
+  listing-retold : (p : List ℕ) → listing (said b) p ≡ listing (said (retold b)) p
+  listing-retold p =
+      let s = retold-same k in
+      let x = same-start k (retold-keeps k) s in
+      λ i. start-line (x i .state) (x i .goal) (entry p (entry-number (s .goals i) (x i)) .value)
+      ++ lines (λ t q. let e = entry p (entry-number (s .goals i) (place t q)) in entry-line t q (e .value) (e .action) (e .number))
+      (s .states i) (s .goals i)
+
+  pub prints-retold : {before text : List ℕ} → Prints b before text → Prints (retold b) before text
+  prints-retold (refuses p z) = refuses (same-planning k (retold-keeps k) (retold-same k) p) z
+  prints-retold {before} (lists {after} d) =
+      subst (Prints (retold b) before) (sym (listing-retold after)) (lists (same-planning k (retold-keeps k) (retold-same k) d))
