@@ -1,4 +1,4 @@
--- The limits of each form in numbers: what refusals 2, 3 and 5 ask of an old job and of a tall one, and what a job that keeps the rules has.
+-- The limits of each form in numbers: what refusals 3 and 5 ask of an old job and of a tall one, and what a job that keeps the rules has.
 use Prim.Native.Nat.{ℕ, _*_, _%_, _≤_}
 use mathlib.Core.Bool.{Bool, true, false}
 use mathlib.Core.List.{List}
@@ -29,7 +29,14 @@ pub record Has (b : List ℕ) (most-states record-bytes most-records most-bytes 
   pub bytes : length b ≤ most-bytes
 
 module _ (b : List ℕ) where
-  asks : let f = form-of (is-tall b) in Asks b (f .most-states) (f .record-size) (f .record-size * f .most-records)
+  -- both by the form
+  abbrev AsksOf : Bool → Type 0
+  AsksOf t = let f = form-of t in Asks b (f .most-states) (f .record-size) (f .record-size * f .most-records)
+
+  abbrev HasOf : Bool → Type 0
+  HasOf t = let f = form-of t in Has b (f .most-states) (f .record-size) (f .most-records) (longest t)
+
+  asks : AsksOf (is-tall b)
   asks =
       let f = form-of (is-tall b) in
       record {
@@ -37,25 +44,20 @@ module _ (b : List ℕ) where
         asks-5 = and-iff (eqb-iff (size b 2 % f .record-size) 0) (leb-iff (size b 2) (f .record-size * f .most-records));
       }
 
-  has : Keeps b → let f = form-of (is-tall b) in Has b (f .most-states) (f .record-size) (f .most-records) (longest (is-tall b))
+  has : Keeps b → HasOf (is-tall b)
   has k = record { states = k .few-states; moves = k .moves-long; records = k .few-records; bytes = length-few k }
 
   is-old : size b 0 ≡ 6 → is-tall b ≡ false
   is-old e = ne-eqb (size b 0) 8 (λ (z : size b 0 ≡ 8). omega arith)
 
   pub old-asks : size b 0 ≡ 6 → Asks b 128 3 12288
-  old-asks e = subst (λ (t : Bool). let f = form-of t in Asks b (f .most-states) (f .record-size) (f .record-size * f .most-records)) (is-old e) asks
+  old-asks e = subst AsksOf (is-old e) asks
 
   pub tall-asks : size b 0 ≡ 8 → Asks b 512 5 40960
-  tall-asks e =
-      subst (λ (t : Bool). let f = form-of t in Asks b (f .most-states) (f .record-size) (f .record-size * f .most-records))
-      (eq-eqb (size b 0) 8 e) asks
+  tall-asks e = subst AsksOf (eq-eqb (size b 0) 8 e) asks
 
   pub old-has : Keeps b → size b 0 ≡ 6 → Has b 128 3 4096 14518
-  old-has k e =
-      subst (λ (t : Bool). let f = form-of t in Has b (f .most-states) (f .record-size) (f .most-records) (longest t)) (is-old e) (has k)
+  old-has k e = subst HasOf (is-old e) (has k)
 
   pub tall-has : Keeps b → size b 0 ≡ 8 → Has b 512 5 8192 43576
-  tall-has k e =
-      subst (λ (t : Bool). let f = form-of t in Has b (f .most-states) (f .record-size) (f .most-records) (longest t))
-      (eq-eqb (size b 0) 8 e) (has k)
+  tall-has k e = subst HasOf (eq-eqb (size b 0) 8 e) (has k)
