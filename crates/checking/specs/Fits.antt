@@ -16,7 +16,7 @@ use Rattle.rules.specs.declared.place.Place.{Place}
 use Rattle.job.specs.Layout.{Fit}
 use Rattle.job.specs.declared.layout.Layout.{Layout}
 use Rattle.labelling.specs.Scan.{Range}
-use Rattle.labelling.specs.Pass.{place-at}
+use Rattle.phases.specs.Pass.{place-at}
 use Rattle.checking.specs.Checking.{CheckedFigures}
 use Rattle.checking.specs.declared.entries.Seen.{Seen}
 

@@ -13,9 +13,10 @@ use Rattle.sets.specs.declared.actions.LowestAction.{LowestAction}
 use Rattle.game.proofs.Lists.{some-found, sure-at, sure-some}
 use Rattle.game.proofs.Search.{lowest, clash, if-not-true, least-unique}
 use Rattle.game.proofs.Tests.{some-stops, some-met, lowest-found}
-use Rattle.labelling.specs.declared.scan.Phase.{Phase}
+use Rattle.phases.specs.declared.phase.Phase.{Phase}
+use Rattle.phases.specs.Wanted.{wanted}
 use Rattle.labelling.specs.declared.scan.Tally.{Tally}
-use Rattle.labelling.specs.Scan.{Scanned, LowestPassing, tallied-for, wanted}
+use Rattle.labelling.specs.Scan.{Scanned, LowestPassing, tallied-for}
 
 -- tests that say the same of each action have the same lowest one
 pub lowest-same : {f g : ℕ → Bool} → ((a : ℕ) → f a ≡ g a) → (r : LowestAction) → LowestPassing f r → LowestPassing g r

@@ -1,8 +1,8 @@
--- What one place adds to a round and to round 0, and what a round's functions hand on.
+-- What one place adds to a round, and what a round's functions hand on.
 use Prim.Native.Nat.{ℕ, _+_, _*_, _≤_, _<_}
 use mathlib.Core.Bool.{Bool, true, false, not, _&&_, and-false}
 use mathlib.Core.List.{List}
-use mathlib.Core.Path.{_≡_, refl, sym, ap, _∙_}
+use mathlib.Core.Path.{_≡_, sym, ap, _∙_}
 use native.Mathlib.Nat.{add-mul, one-mul}
 use native.Mathlib.Omega.{arith}
 use borrow.Author.Tests.{lt-ltb}
@@ -16,15 +16,16 @@ use Rattle.rules.specs.Bytes.{said}
 use Rattle.rules.specs.Plan.{Wrote}
 use Rattle.game.specs.declared.entry.Entry.{Entry}
 use Rattle.sets.specs.declared.actions.LowestAction.{LowestAction}
-use Rattle.job.specs.Layout.{Fit}
 use Rattle.job.specs.declared.layout.Layout.{Layout}
 use Rattle.job.proofs.Asking.{few-places, lawful}
-use Rattle.labelling.specs.declared.scan.Phase.{Phase}
+use Rattle.phases.specs.declared.phase.Phase.{Phase}
 use Rattle.labelling.specs.declared.scan.Tally.{Tally}
-use Rattle.labelling.specs.Scan.{in-set, Scanned, LowestPassing, tallied-for, wanted, phase-value}
-use Rattle.labelling.specs.Pass.{Pass}
-use Rattle.labelling.specs.Round.{Ready, adds, Passed, met-at, Begun}
-use Rattle.labelling.proofs.Passes.{pass-skip, pass-put, pass-write}
+use Rattle.labelling.specs.Scan.{Scanned, LowestPassing, tallied-for}
+use Rattle.labelling.specs.Round.{Ready}
+use Rattle.phases.specs.Wanted.{in-set, wanted, phase-value}
+use Rattle.phases.specs.Pass.{Pass}
+use Rattle.phases.specs.Round.{adds, Passed}
+use Rattle.phases.proofs.Passes.{pass-skip, pass-put}
 use Rattle.labelling.proofs.Choosing.{LowestCounted, chosen, choice-counted}
 
 -- ---- a round's functions, one after the other
@@ -39,16 +40,6 @@ pub ready-on : {b : List ℕ} {l : Layout} {s start end : ℕ} {gains writes : �
     → Ready b l s start end ws plan → Pass gains writes entries lo hi ws plan ws′ plan′ → Ready b l s start end ws′ plan′
 ready-on r p =
     record { fit = r .fit; state = r .state; range = r .range; words = p .as-many ∙ r .words; room = rw (p .as-long) (r .room) }
-
--- ---- round 0: an accepted place, and one that is not
-
-module _ {b : List ℕ} {l : Layout} (f : Fit b l) {i v : ℕ} {ws plan plan1 : List ℕ} where
-  pub begun-met : {ws1 : List ℕ} → i < l .states * l .goals → met-at b l i ≡ true → Put ws i ws1
-      → v ≡ 2 → Wrote i (says v 255 0) plan plan1 → Begun b l i (i + 1) ws plan ws1 plan1
-  begun-met h m p e w = pass-put m refl (omega (arith, few-places f)) p (rw m (rw e at w))
-
-  pub begun-unmet : met-at b l i ≡ false → v ≡ 0 → Wrote i (says v 255 0) plan plan1 → Begun b l i (i + 1) ws plan ws plan1
-  begun-unmet m e w = pass-write m refl (rw m (rw e at w))
 
 -- ---- a round at one place
 

@@ -1,21 +1,15 @@
 -- What looking through the records of one state shows of a place, with a set of places given.
 use Prim.Native.Nat.{ℕ, _+_, _≤_, _<_}
 use mathlib.Core.Bool.{Bool, true, false, not, _&&_, _||_}
-use mathlib.Core.List.{List}
 use mathlib.Core.Path.{_≡_}
 use lib.Dec.{eqb, ltb}
-use Rattle.sets.specs.Sets.{bit, member}
-use Rattle.game.specs.Game.{Arena}
-use Rattle.rules.specs.Job.{Job, entry-number, arena}
+use Rattle.sets.specs.Sets.{bit}
+use Rattle.rules.specs.Job.{Job, arena}
 use Rattle.rules.specs.declared.place.Place.{Place}
 use Rattle.sets.specs.declared.actions.LowestAction.{LowestAction}
-use Rattle.game.proofs.Lists.{some, sure}
-use Rattle.labelling.specs.declared.scan.Phase.{Phase}
+use Rattle.game.proofs.Lists.{some}
+use Rattle.phases.specs.declared.phase.Phase.{Phase}
 use Rattle.labelling.specs.declared.scan.Tally.{Tally}
-
--- the places of a set, with so many goal states
-abbrev pub in-set : ℕ → List ℕ → Place → Bool
-in-set goals ws p = member ws (entry-number goals p)
 
 -- the records of states below s are those before k
 pub record From (j : Job) (s k : ℕ) : Type 0 where
@@ -50,13 +44,3 @@ LowestPassing f LowestAction.Nothing = (k : ℕ) → f k ≡ false
 abbrev pub tallied-for : Phase → Tally → ℕ → Bool
 tallied-for Phase.Winning x a = bit (x .opens .bits) a && not (bit (x .spoilt .bits) a)
 tallied-for Phase.Pending x a = bit (x .held .bits) a
-
--- the actions that a phase looks for at p, with the places of f reached: open with every outcome there, or with some outcome there
-abbrev pub wanted : Phase → (G : Arena) → (G .Place → Bool) → G .Place → ℕ → Bool
-wanted Phase.Winning G f p a = sure f (G .leads p a)
-wanted Phase.Pending G f p a = some f (G .leads p a)
-
--- the value of a phase's places
-abbrev pub phase-value : Phase → ℕ
-phase-value Phase.Winning = 2
-phase-value Phase.Pending = 1

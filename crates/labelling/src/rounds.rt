@@ -3,16 +3,11 @@ ghost use Prim.Native.Nat.{_*_, _≤_};
 ghost use lib.ListN.{length};
 ghost use Rattle.rules.specs.Bytes.{said};
 ghost use Rattle.job.specs.Layout.{Fit};
-ghost use Rattle.labelling.specs.Rounds.{NonePast, Settles, Labelled};
-use crate::scan::Phase;
+ghost use Rattle.phases.specs.Rounds.{NonePast, Settles, Labelled};
 use job::layout::Layout;
+use phases::phase::Phase;
+use phases::phase::Rounds;
 use sets::places::PlaceSet;
-
-// What the rounds of a phase leave: the set, and whether a round numbered S·Q still added a place.
-pub struct Rounds {
-    pub set: PlaceSet,
-    pub over: bool,
-}
 
 // Rounds of the phase, from the set on, which has no place but the job's.
 pub fn all_rounds(plan: &mut [u8], job: &[u8], l: Layout, set: PlaceSet, phase: Phase) -> Rounds
@@ -51,7 +46,7 @@ pub fn label_all(plan: &mut [u8], job: &[u8], l: Layout) -> bool
     requires { ⌜ 4 * (l .states * l .goals) ≤ length (now plan) ⌝ }
     ensures { λ r. ⌜ Labelled (said (now (job .entry))) (now (plan .entry)) r (now (plan .exit)) ⌝ }
 {
-    let first = crate::round::begin(plan, job, l);
+    let first = phases::begin::begin(plan, job, l);
     let won = all_rounds(plan, job, l, first, Phase::Winning);
     if won.over {
         return true;

@@ -4,17 +4,13 @@ ghost use Prim.Native.Nat.{_<_};
 ghost use Rattle.rules.specs.Bytes.{said};
 ghost use Rattle.rules.specs.Job.{entered, place};
 ghost use Rattle.job.specs.Layout.{Fit};
-ghost use Rattle.labelling.specs.Scan.{in-set, Range, Tallied, Scanned, LowestPassing, tallied-for};
+ghost use Rattle.phases.specs.Wanted.{in-set};
+ghost use Rattle.labelling.specs.Scan.{Range, Tallied, Scanned, LowestPassing, tallied-for};
 use job::layout::Layout;
+use phases::phase::Phase;
 use sets::actions::ActionSet;
 use sets::actions::LowestAction;
 use sets::places::WORDS;
-
-// What the rounds of a phase label.
-pub enum Phase {
-    Winning,
-    Pending,
-}
 
 // Sets of actions at a place: those with a record, those with an outcome in the set of places, and those with one outside it.
 pub struct Tally {

@@ -4,7 +4,7 @@ use borrow.Author.Needs.{needs}
 use Rattle.rules.specs.Calls.{no-room}
 use Rattle.rules.proofs.Kept.{kept}
 use Rattle.job.proofs.Asking.{few-places, places-said}
-use Rattle.labelling.proofs.Planning.{planned-done, planned-over}
+use Rattle.phases.proofs.Planning.{planned-done, planned-over}
 use Rattle.labelling.proofs.plan.plan_read.Statement.{statement}
 use Rattle.labelling.proofs.plan.plan_read.Tie as tie
 

@@ -3,8 +3,8 @@ use Prim.Native.Nat.{_+_, _*_, _-_, _≤_}
 use mathlib.Core.Path.{_≡_}
 use native.Mathlib.Omega.{arith}
 use borrow.Author.Needs.{needs}
-use Rattle.labelling.specs.Round.{Passed}
-use Rattle.labelling.proofs.Passes.{pass-empty, pass-join}
+use Rattle.phases.specs.Round.{Passed}
+use Rattle.phases.proofs.Passes.{pass-empty, pass-join}
 use Rattle.labelling.proofs.Rounding.{ready-on}
 use Rattle.labelling.proofs.round.label_state.Statement.{statement}
 use Rattle.labelling.proofs.round.label_state.Tie as tie

@@ -5,9 +5,9 @@ use native.Mathlib.Omega.{arith}
 use borrow.Author.Needs.{needs}
 use lib.ListN.{length}
 use Rattle.rules.specs.Bytes.{said}
+use Rattle.phases.specs.Round.{Passed}
+use Rattle.phases.proofs.Passes.{pass-empty, pass-join}
 use Rattle.labelling.specs.Scan.{From}
-use Rattle.labelling.specs.Round.{Passed}
-use Rattle.labelling.proofs.Passes.{pass-empty, pass-join}
 use Rattle.labelling.proofs.Ranging.{from-start}
 use Rattle.labelling.proofs.Rounding.{next-row}
 use Rattle.labelling.proofs.round.one_round.Statement.{statement}

@@ -7,7 +7,7 @@ use lib.ListN.{length}
 use Rattle.rules.specs.Bytes.{said}
 use Rattle.sets.specs.Sets.{member, count}
 use Rattle.job.proofs.Asking.{few-places, places-said}
-use Rattle.labelling.proofs.Settling.{Going, going-none, going-more, going-stop, going-over}
+use Rattle.phases.proofs.Settling.{Going, going-none, going-more, going-stop, going-over}
 use Rattle.labelling.proofs.rounds.all_rounds.Statement.{statement}
 use Rattle.labelling.proofs.rounds.all_rounds.Tie as tie
 

@@ -1,8 +1,8 @@
 -- `label_all` meets its contract: round 0, the rounds of winning, and the rounds of hope.
 use native.Mathlib.Omega.{arith}
 use borrow.Author.Needs.{needs}
-use Rattle.labelling.proofs.Holding.{holds-begin, holds-none-past}
-use Rattle.labelling.proofs.Settling.{labelled-over, labelled-both}
+use Rattle.phases.proofs.Holding.{holds-begin, holds-none-past}
+use Rattle.phases.proofs.Settling.{labelled-over, labelled-both}
 use Rattle.labelling.proofs.rounds.label_all.Statement.{statement}
 use Rattle.labelling.proofs.rounds.label_all.Tie as tie
 

@@ -6,7 +6,7 @@ use borrow.Author.Needs.{needs}
 use Rattle.rules.specs.Job.{place}
 use Rattle.rules.specs.Bytes.{said}
 use Rattle.job.proofs.Asking.{records-said, outcome-below, action-few}
-use Rattle.labelling.specs.Scan.{in-set}
+use Rattle.phases.specs.Wanted.{in-set}
 use Rattle.labelling.proofs.Ranging.{range-few, range-state}
 use Rattle.labelling.proofs.Scanning.{Scanning, scanning-none, scanning-more, scanning-all}
 use Rattle.labelling.proofs.scan.scan.Statement.{statement}

@@ -15,7 +15,7 @@ use Rattle.rules.specs.Plan.{entry, room, Plan}
 use Rattle.rules.specs.Calls.{Planning, overrun, planned}
 use Rattle.rules.proofs.Kept.{kept}
 use Rattle.rules.proofs.Unique.{no-overrun}
-use Rattle.labelling.specs.Rounds.{Labelled}
+use Rattle.phases.specs.Rounds.{Labelled}
 
 module _ {b before plan : List ℕ} (k : Keeps b) (fits : room (said b) ≤ length before) {over : Bool}
     (l : Labelled (said b) before over plan) where

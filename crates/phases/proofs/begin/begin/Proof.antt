@@ -5,10 +5,10 @@ use native.Mathlib.Omega.{arith}
 use lib.ListN.{length}
 use borrow.Author.Needs.{needs}
 use Rattle.job.proofs.Asking.{few-places}
-use Rattle.labelling.specs.Round.{Begun}
-use Rattle.labelling.proofs.Passes.{pass-none, pass-join}
-use Rattle.labelling.proofs.round.begin.Statement.{statement}
-use Rattle.labelling.proofs.round.begin.Tie as tie
+use Rattle.phases.specs.Round.{Begun}
+use Rattle.phases.proofs.Passes.{pass-none, pass-join}
+use Rattle.phases.proofs.begin.begin.Statement.{statement}
+use Rattle.phases.proofs.begin.begin.Tie as tie
 use Rattle.sets.specs.Sets.{set-words}
 
 abbrev Inv-loop : tie.InvT-loop

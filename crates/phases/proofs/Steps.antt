@@ -11,10 +11,10 @@ use Rattle.game.proofs.Rounds.{size, win, hope, won, hoped, win-accepted, win-u
 use Rattle.game.proofs.Values.{wins-iff}
 use Rattle.game.proofs.Hopes.{hopes-iff}
 use Rattle.game.proofs.Right.{right-wins, right-hopes, right-loses, pending-at}
-use Rattle.labelling.specs.declared.scan.Phase.{Phase}
-use Rattle.labelling.specs.Scan.{wanted}
-use Rattle.labelling.specs.Rounds.{reached, written}
-use Rattle.labelling.proofs.Agree.{wanted-ext, reached-ext, reached-up, reached-mono, written-old, written-none, written-new}
+use Rattle.phases.specs.declared.phase.Phase.{Phase}
+use Rattle.phases.specs.Wanted.{wanted}
+use Rattle.phases.specs.Rounds.{reached, written}
+use Rattle.phases.proofs.Agree.{wanted-ext, reached-ext, reached-up, reached-mono, written-old, written-none, written-new}
 
 -- with no round, nothing is reached but what was there
 reached-none : (v : Phase) (G : Arena) (f : G .Place → Bool) (p : G .Place) → reached v G f zero p ≡ true → f p ≡ true

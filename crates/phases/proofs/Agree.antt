@@ -9,9 +9,9 @@ use Rattle.game.specs.Below.{some-below}
 use Rattle.game.proofs.Lists.{some-ext, sure-ext}
 use Rattle.game.proofs.Search.{lowest, lowest-ext, stays}
 use Rattle.game.proofs.Tests.{some-below-ext}
-use Rattle.labelling.specs.declared.scan.Phase.{Phase}
-use Rattle.labelling.specs.Scan.{wanted, phase-value}
-use Rattle.labelling.specs.Rounds.{reached, written}
+use Rattle.phases.specs.declared.phase.Phase.{Phase}
+use Rattle.phases.specs.Wanted.{wanted, phase-value}
+use Rattle.phases.specs.Rounds.{reached, written}
 
 -- ---- rounds from tests that agree inside
 

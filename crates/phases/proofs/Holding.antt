@@ -27,13 +27,13 @@ use Rattle.rules.proofs.Rows.{row-of}
 use Rattle.game.proofs.Tests.{and-iff, ltb-iff}
 use Rattle.job.specs.Layout.{Fit, layout}
 use Rattle.job.specs.declared.layout.Layout.{Layout}
-use Rattle.labelling.specs.declared.scan.Phase.{Phase}
-use Rattle.labelling.specs.Scan.{in-set, wanted, phase-value}
-use Rattle.labelling.specs.Pass.{place-at, Pass}
-use Rattle.labelling.specs.Round.{Passed, BegunAll}
-use Rattle.labelling.specs.Rounds.{reached, written, Holds, NonePast}
-use Rattle.labelling.proofs.Passes.{between-zero}
-use Rattle.labelling.proofs.Agree.{some-wanted-ext, lowest-wanted-ext, reached-up}
+use Rattle.phases.specs.declared.phase.Phase.{Phase}
+use Rattle.phases.specs.Wanted.{in-set, wanted, phase-value}
+use Rattle.phases.specs.Pass.{place-at, Pass}
+use Rattle.phases.specs.Round.{Passed, BegunAll}
+use Rattle.phases.specs.Rounds.{reached, written, Holds, NonePast}
+use Rattle.phases.proofs.Passes.{between-zero}
+use Rattle.phases.proofs.Agree.{some-wanted-ext, lowest-wanted-ext, reached-up}
 
 -- ---- places and their numbers
 

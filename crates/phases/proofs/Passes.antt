@@ -12,7 +12,7 @@ use Rattle.sets.specs.Sets.{set-room, member, Put}
 use Rattle.rules.specs.Plan.{entry-byte, Wrote}
 use Rattle.game.specs.declared.entry.Entry.{Entry}
 use Rattle.sets.proofs.Bits.{below-or, same-or}
-use Rattle.labelling.specs.Pass.{between, Pass}
+use Rattle.phases.specs.Pass.{between, Pass}
 
 -- ---- the numbers of a window
 

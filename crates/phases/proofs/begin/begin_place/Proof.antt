@@ -3,9 +3,9 @@ use mathlib.Core.Path.{sym, _∙_}
 use native.Mathlib.Nat.{mod-lt, div-lt-iff-lt-mul}
 use borrow.Author.Needs.{needs}
 use Rattle.job.proofs.Asking.{some-goals}
-use Rattle.labelling.proofs.Rounding.{begun-met, begun-unmet}
-use Rattle.labelling.proofs.round.begin_place.Statement.{statement}
-use Rattle.labelling.proofs.round.begin_place.Tie as tie
+use Rattle.phases.proofs.Beginning.{begun-met, begun-unmet}
+use Rattle.phases.proofs.begin.begin_place.Statement.{statement}
+use Rattle.phases.proofs.begin.begin_place.Tie as tie
 
 div-is-accepted : tie.Need-div-is-accepted
 div-is-accepted c = some-goals (c .before .before .before .pre .0)

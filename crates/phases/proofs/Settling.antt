@@ -20,14 +20,14 @@ use Rattle.rules.proofs.Kept.{places-some}
 use Rattle.rules.proofs.Arenas.{inside-iff, arena-lawful}
 use Rattle.job.specs.Layout.{Fit}
 use Rattle.job.specs.declared.layout.Layout.{Layout}
-use Rattle.labelling.specs.declared.scan.Phase.{Phase}
-use Rattle.labelling.specs.declared.rounds.Rounds.{Rounds}
-use Rattle.labelling.specs.Scan.{wanted}
-use Rattle.labelling.specs.Round.{Passed}
-use Rattle.labelling.specs.Rounds.{reached, written, Holds, Settled, Labelled}
-use Rattle.labelling.proofs.Agree.{wanted-ext, reached-up}
-use Rattle.labelling.proofs.Steps.{wins-by, first-says, wins-says, all-right, hope-number, win-number}
-use Rattle.labelling.proofs.Holding.{holds-round, holds-entry, holds-rest, holds-zero, same-size, grew}
+use Rattle.phases.specs.declared.phase.Phase.{Phase}
+use Rattle.phases.specs.declared.phase.Rounds.{Rounds}
+use Rattle.phases.specs.Wanted.{wanted}
+use Rattle.phases.specs.Round.{Passed}
+use Rattle.phases.specs.Rounds.{reached, written, Holds, Settled, Labelled}
+use Rattle.phases.proofs.Agree.{wanted-ext, reached-up}
+use Rattle.phases.proofs.Steps.{wins-by, first-says, wins-says, all-right, hope-number, win-number}
+use Rattle.phases.proofs.Holding.{holds-round, holds-entry, holds-rest, holds-zero, same-size, grew}
 
 absorb : (a x y : Bool) → y ≡ x → ((a || x) || y) ≡ true → (a || x) ≡ true
 absorb true x y q e = refl

@@ -14,10 +14,10 @@ use Rattle.rules.specs.Calls.{Overrun}
 use Rattle.rules.specs.declared.place.Place.{Place}
 use Rattle.game.specs.declared.entry.Entry.{Entry}
 use Rattle.game.proofs.Search.{lowest}
-use Rattle.labelling.specs.declared.scan.Phase.{Phase}
-use Rattle.labelling.specs.declared.rounds.Rounds.{Rounds}
-use Rattle.labelling.specs.Scan.{wanted, phase-value}
-use Rattle.labelling.specs.Pass.{place-at}
+use Rattle.phases.specs.declared.phase.Phase.{Phase}
+use Rattle.phases.specs.declared.phase.Rounds.{Rounds}
+use Rattle.phases.specs.Wanted.{wanted, phase-value}
+use Rattle.phases.specs.Pass.{place-at}
 
 module _ (v : Phase) (G : Arena) where
   -- the places of f and those that n rounds add
