@@ -23,10 +23,10 @@
    What a job means does not depend on its form. A small job may come in the tall form, and a job that is rewritten gets the same plan and the same answers.
 
    The library needs no heap, keeps nothing between calls, and takes every input: what is bad is refused by number, the first fault
-   first. A refusal changes nothing in the buffer that you lend for a plan or a goal.
+   first. A refusal changes nothing in a buffer that you lend.
 
    What you owe: a pointer and its length describe memory of yours that holds that many bytes for as long as the call runs; a length of
-   0 wants a pointer that is not null all the same; the job and the plan do not overlap; and nothing else writes to them during a call.
+   0 wants a pointer that is not null all the same; the buffers of a call do not overlap; and nothing else writes to them during a call.
    Calls on different buffers may run at the same time.
 
    Link with -lcabinet (x86-64, GNU/Linux). */
@@ -45,6 +45,13 @@ extern "C" {
    longest job has 14,518 bytes and the longest plan 16,384. */
 #define CABINET_JOB_MAX 43576
 #define CABINET_PLAN_MAX 65536
+
+/* What `cabinet_plan_indexed` needs beside the plan, in words of two bytes: an index, a word for each state and one for each record of Moves, and
+   counters, one for each state with each goal state and each action. Below these the most that any job needs. */
+#define CABINET_INDEX_WORDS(states, records) ((size_t)(states) + (size_t)(records))
+#define CABINET_COUNTERS_WORDS(states, goals, actions) ((size_t)(states) * (size_t)(goals) * (size_t)(actions))
+#define CABINET_INDEX_MAX 8704
+#define CABINET_COUNTERS_MAX 262144
 
 /* What is added to the label of a busy state. */
 #define CABINET_BUSY 128
@@ -65,6 +72,7 @@ enum cabinet_refusal {
   CABINET_ORDER = 13,      /* a record does not come after the one before it, compared field by field; `record` says which */
   CABINET_GOAL = 6,        /* Goal has the wrong length, a goal state is not below Q, or a mark is above 1 */
   CABINET_ROOM = 7,        /* the plan buffer is under 4 * S * Q bytes, or the Goal body has no room */
+  CABINET_MEMORY = 17,     /* the index is under S + records words, or the counters are under S * Q * A */
   CABINET_ROUNDS = 8,      /* labelling would still add a place in round S * Q; proved never to happen */
   CABINET_PLACE = 9,       /* the state is not below S, or the goal state is not below Q */
   CABINET_ENTRY = 10,      /* the plan's entry has none of the four shapes */
@@ -119,6 +127,15 @@ typedef struct {
 /* Plans the job into the buffer: entry s * Q + q, four bytes, says of state s with goal state q its value, its action (255: none) and
    its number, low byte first. Bytes beyond the plan stay as they are. Gives 1 to 8, 12, 13. */
 cabinet_planned cabinet_plan(const uint8_t *job, size_t job_len, uint8_t *plan, size_t plan_len);
+
+/* The same answer and the same plan, byte for byte, by a second engine, which works backward from where the goal is met with an index of the
+   records that lead to each state. It looks at each record at most Q times a value, whatever the numbers, where `cabinet_plan` looks at all of them once a
+   round: take it where numbers are large. It needs two buffers more, lengths in words of two bytes: CABINET_INDEX_WORDS(S, records) and
+   CABINET_COUNTERS_WORDS(S, Q, A). What they hold before does not matter. On success the index lists each record once: word t, below S, is the first
+   record that leads to state t, word S + k the next after record k that leads where k does, and the count of records stands for none; the used
+   counters are 0; and words beyond these stay as they are. Gives 1 to 7, 12, 13, and after 7 17; never 8. */
+cabinet_planned cabinet_plan_indexed(const uint8_t *job, size_t job_len, uint8_t *plan, size_t plan_len, uint16_t *index, size_t index_len,
+                                     uint16_t *counters, size_t counters_len);
 
 /* The starting place: the first state, with the goal state that has read its label. Gives 1 to 6, 12, 13. */
 cabinet_moved cabinet_start(const uint8_t *job, size_t job_len);

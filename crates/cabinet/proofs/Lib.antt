@@ -16,3 +16,4 @@ pub mod Playing
 pub mod Effort
 pub mod Plate
 pub mod Behaving
+pub mod ByIndex

@@ -2,4 +2,5 @@
 pub mod calls;
 pub mod checks;
 pub mod goals;
+pub mod indexed;
 pub mod place;

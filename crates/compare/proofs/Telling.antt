@@ -117,8 +117,8 @@ told-whole {b} {p} t byte room =
 -- no refusal has the number of a wrong entry
 not-wrong : (r : Refusal) → refusal-fault r .number ≢ 16
 not-wrong r e =
-    let is : r ≡ Refusal.Clause = sym (refusal-back r) ∙ ap (λ (n : ℕ). refusal-of n (refusal-fault r .«record»)) e in
-    let n : refusal-fault r .number ≡ 15 = ap (λ (x : Refusal). refusal-fault x .number) is in
+    let is : r ≡ Refusal.Memory = sym (refusal-back r) ∙ ap (λ (n : ℕ). refusal-of n (refusal-fault r .«record»)) e in
+    let n : refusal-fault r .number ≡ 17 = ap (λ (x : Refusal). refusal-fault x .number) is in
     omega arith
 
 pub told-refused : {b p out left : List ℕ} {n : ℕ} (r : Refusal) → Checks b p (checked-figures (Checked.Refused r))

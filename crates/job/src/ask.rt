@@ -23,7 +23,7 @@ fn label(job: &[u8], l: Layout, s: usize) -> usize
 }
 
 // The goal state after entering state t from goal state q.
-fn next_goal(job: &[u8], l: Layout, q: usize, t: usize) -> usize
+pub fn next_goal(job: &[u8], l: Layout, q: usize, t: usize) -> usize
     requires { ⌜ Fit (now job) l ⌝ }
     requires { ⌜ q < l .goals ⌝ }
     requires { ⌜ t < l .states ⌝ }

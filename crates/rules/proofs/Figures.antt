@@ -33,7 +33,8 @@ refusal-of (suc (suc (suc (suc (suc (suc (suc (suc (suc (suc (suc zero))))))))))
 refusal-of (suc (suc (suc (suc (suc (suc (suc (suc (suc (suc (suc (suc zero)))))))))))) k = Refusal.Field k
 refusal-of (suc (suc (suc (suc (suc (suc (suc (suc (suc (suc (suc (suc (suc zero))))))))))))) k = Refusal.Order k
 refusal-of (suc (suc (suc (suc (suc (suc (suc (suc (suc (suc (suc (suc (suc (suc zero)))))))))))))) k = Refusal.NoClauses
-refusal-of (suc (suc (suc (suc (suc (suc (suc (suc (suc (suc (suc (suc (suc (suc (suc n))))))))))))))) k = Refusal.Clause
+refusal-of (suc (suc (suc (suc (suc (suc (suc (suc (suc (suc (suc (suc (suc (suc (suc zero))))))))))))))) k = Refusal.Clause
+refusal-of (suc (suc (suc (suc (suc (suc (suc (suc (suc (suc (suc (suc (suc (suc (suc (suc n)))))))))))))))) k = Refusal.Memory
 
 abbrev value-of : ℕ → Value
 value-of zero = Value.Losing
@@ -57,6 +58,7 @@ refusal-back (Refusal.Field k) = refl
 refusal-back (Refusal.Order k) = refl
 refusal-back Refusal.NoClauses = refl
 refusal-back Refusal.Clause = refl
+refusal-back Refusal.Memory = refl
 
 pub refusal-some : (r : Refusal) → (n : ℕ) × (refusal-fault r .number ≡ suc n)
 refusal-some Refusal.Short = (0, refl)
@@ -74,6 +76,7 @@ refusal-some (Refusal.Field k) = (11, refl)
 refusal-some (Refusal.Order k) = (12, refl)
 refusal-some Refusal.NoClauses = (13, refl)
 refusal-some Refusal.Clause = (14, refl)
+refusal-some Refusal.Memory = (16, refl)
 
 pub value-back : (v : Value) → value-of (value-number v) ≡ v
 value-back Value.Losing = refl
@@ -126,6 +129,7 @@ record-none Refusal.Entry f o = refl
 record-none Refusal.Outcome f o = refl
 record-none Refusal.NoClauses f o = refl
 record-none Refusal.Clause f o = refl
+record-none Refusal.Memory f o = refl
 
 pub planned-known : (r s : Planned) → planned-fault r ≡ planned-fault s → r ≡ s
 planned-known = known-by planned-fault planned-of planned-back

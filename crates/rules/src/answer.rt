@@ -19,6 +19,7 @@ pub enum Refusal {
     Outcome,
     NoClauses,
     Clause,
+    Memory,
 }
 
 pub enum Value {
@@ -63,6 +64,7 @@ impl Refusal {
             Refusal::Outcome => 11,
             Refusal::NoClauses => 14,
             Refusal::Clause => 15,
+            Refusal::Memory => 17,
         }
     }
 
@@ -86,6 +88,7 @@ impl Refusal {
             Refusal::Outcome => 0,
             Refusal::NoClauses => 0,
             Refusal::Clause => 0,
+            Refusal::Memory => 0,
         }
     }
 }

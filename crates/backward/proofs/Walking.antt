@@ -1,0 +1,43 @@
+-- Going along the index, from a record that leads to a state to the next.
+use Prim.Native.Nat.{ℕ, _+_, _≤_, _<_, zero-le}
+use mathlib.Core.Bool.{Bool, false, or-false}
+use mathlib.Core.List.{List}
+use mathlib.Core.Path.{_≡_, refl, sym, ap, _∙_}
+use native.Mathlib.Decide.{le-ind}
+use native.Mathlib.Nat.{add-zero}
+use native.Mathlib.Numerals.{add-one}
+use native.Mathlib.Omega.{arith}
+use lib.ListN.{getD}
+use Rattle.sets.specs.Sets.{one, count}
+use Rattle.game.specs.Below.{some-below}
+use Rattle.rules.specs.Job.{Job}
+use Rattle.backward.specs.Index.{Lists}
+use Rattle.backward.proofs.Listing.{Skips, next-skips}
+
+module _ {j : Job} {index : List ℕ} (x : Lists j index) where
+  pub first-skips : (t : ℕ) → t < j .states → Skips j t 0 (getD index t 0)
+  first-skips t h = rw (x .indexed .firsts t h) (next-skips j t 0 zero-le)
+
+  pub after-skips : (t k : ℕ) → k < j .records → j .move k .outcome ≡ t → Skips j t (k + 1) (getD index (j .states + k) 0)
+  after-skips t k h e = rw (x .indexed .afters k zero-le h, e) (next-skips j t (k + 1) (omega arith))
+
+-- ---- counts and searches over the records that are passed
+
+pub count-next : (f : ℕ → Bool) (k : ℕ) → count f (k + 1) ≡ count f k + one (f k)
+unfolding count
+count-next f k = rw (add-one k)
+
+pub count-over : (f : ℕ → Bool) (k h : ℕ) → k ≤ h → ((i : ℕ) → k ≤ i → i < h → f i ≡ false) → count f h ≡ count f k
+count-over f k h l n =
+    le-ind (λ i. i ≤ h → count f i ≡ count f k) (λ g. refl)
+    (λ i m e g. sym (ap (count f) (add-one i)) ∙ count-next f i ∙ rw (n i m g) (add-zero (count f i) ∙ e (omega arith))) h l (omega arith)
+
+pub count-mono : (f : ℕ → Bool) (k n : ℕ) → k ≤ n → count f k ≤ count f n
+count-mono f k n h =
+    le-ind (λ i. count f k ≤ count f i) (omega arith)
+    (λ i m e. omega (arith, e, count-next f i, ap (count f) (add-one i))) n h
+
+pub some-over : (f : ℕ → Bool) (k h : ℕ) → k ≤ h → ((i : ℕ) → k ≤ i → i < h → f i ≡ false) → some-below h f ≡ some-below k f
+some-over f k h l n =
+    le-ind (λ i. i ≤ h → some-below i f ≡ some-below k f) (λ g. refl)
+    (λ i m e g. rw (n i m g, e (omega arith)) (or-false (some-below k f))) h l (omega arith)

@@ -1,0 +1,9 @@
+// A second engine: it works backward from accepted places, with an index of the records that lead to each state.
+mod counts;
+mod index;
+mod layer;
+mod layers;
+mod note;
+pub mod plan;
+mod step;
+mod words;
