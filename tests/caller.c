@@ -2,8 +2,8 @@
    and ends with status 0 and the count of calls when all answers were right. At the first wrong one it says which call of which input it was, and ends with status 1.
 
    A lent buffer ends at a page that can be neither read nor written, or begins right after one. The job's pages can only be read, and so can the
-   plan's but in a call that is to write it. Slips are lent where a job is, and a Goal body is written where a plan is. `caller N`, N from 0 to 5, steps over
-   one of these fences. */
+   plan's but in a call that is to write it, and the index's and the counters'. Slips are lent where a job is, and a Goal body is written where a plan is.
+   `caller N`, N from 0 to 11, steps over one of these fences. */
 
 #define _DEFAULT_SOURCE
 #include <signal.h>
@@ -16,8 +16,8 @@
 
 #include "cabinet.h"
 
-enum { PAGE = 4096, JOB_SIZE = 20 * PAGE, PLAN_SIZE = 17 * PAGE };
-enum { INPUT, DUE, LEND, PLAN, START, FOLLOW, ADVICE, TIME, GOAL, CHECK, TIME_START, TIME_FOLLOW, TIME_CHECK };
+enum { PAGE = 4096, JOB_SIZE = 20 * PAGE, PLAN_SIZE = 17 * PAGE, INDEX_SIZE = 5 * PAGE, COUNTERS_SIZE = 130 * PAGE };
+enum { INPUT, DUE, LEND, PLAN, START, FOLLOW, ADVICE, TIME, GOAL, DUE_INDEX, INDEXED, CHECK, TIME_START, TIME_FOLLOW, TIME_CHECK };
 
 /* A line: what to do, the side of the fence (1: buffers begin after it), how many bytes come after it, the call's figures, the answer that is due. */
 static struct {
@@ -32,9 +32,10 @@ typedef struct {
 } fenced;
 
 static fenced jobs = {NULL, JOB_SIZE, PROT_NONE}, plans = {NULL, PLAN_SIZE, PROT_NONE};
+static fenced indexes = {NULL, INDEX_SIZE, PROT_NONE}, counts = {NULL, COUNTERS_SIZE, PROT_NONE};
 
-static uint8_t due_plan[PLAN_SIZE], pool[2 * PLAN_SIZE];
-static uint32_t job_len, due_len, lent_len, input[2], calls;
+static uint8_t due_plan[PLAN_SIZE], due_index[INDEX_SIZE], zeros[COUNTERS_SIZE], pool[2 * COUNTERS_SIZE];
+static uint32_t job_len, due_len, due_index_len, due_counters_len, lent_len, input[2], calls;
 static unsigned long long all_calls;
 
 static void fail(const char *why) {
@@ -85,14 +86,14 @@ static uint32_t take(fenced *memory) {
   return line.length;
 }
 
-/* Holds bytes of the plan's memory to those that are due; the first has this place in the lent buffer. */
-static void same_bytes(const uint8_t *found, const uint8_t *due, size_t count, long first) {
+/* Holds bytes of lent memory to those that are due; the first has this place in the lent buffer. */
+static void same_bytes(const char *name, const uint8_t *found, const uint8_t *due, size_t count, long first) {
   if (memcmp(found, due, count) == 0) return;
   size_t i = 0;
   while (found[i] == due[i]) i++;
   char how[80];
   uint32_t byte[] = {found[i]}, should[] = {due[i]};
-  snprintf(how, sizeof how, "byte %ld of the plan buffer:", first + (long)i);
+  snprintf(how, sizeof how, "byte %ld of the %s buffer:", first + (long)i, name);
   wrong(how, byte, should, 1);
 }
 
@@ -112,16 +113,64 @@ static void same_memory(const uint8_t *lent, uint32_t refusal) {
   if (line.due[0] != CABINET_OK || refusal != CABINET_OK) return;
   size_t at = (size_t)(lent - plans.inside), end = at + due_len;
   const uint8_t *before = held_before();
-  same_bytes(plans.inside, before, at, -(long)at);
-  same_bytes(lent, due_plan, due_len, 0);
-  same_bytes(plans.inside + end, before + end, PLAN_SIZE - end, (long)due_len);
+  same_bytes("plan", plans.inside, before, at, -(long)at);
+  same_bytes("plan", lent, due_plan, due_len, 0);
+  same_bytes("plan", plans.inside + end, before + end, PLAN_SIZE - end, (long)due_len);
 }
 
-/* The time of so many calls of planning, or of writing a goal over so many propositions, in nanoseconds. */
-static void say_time(const uint8_t *job, uint32_t times, uint32_t propositions) {
+/* So many bytes beside a buffer of words are held to as well, on the side where it touches no fence. */
+enum { BESIDE = 256 };
+
+/* Where the bytes that are filled and held to begin, and how many they are. */
+static uint8_t *window(const fenced *memory, uint32_t words, size_t *count) {
+  size_t beside = memory->size - 2 * (size_t)words < BESIDE ? memory->size - 2 * (size_t)words : BESIDE;
+  *count = 2 * (size_t)words + beside;
+  return place(memory, *count);
+}
+
+/* Words to be written to, with what the memory holds before chosen by a figure; where the call is to be refused, they can only be read. */
+static uint16_t *lend_words(fenced *memory, uint32_t words) {
+  size_t count;
+  int good = line.due[0] == CABINET_OK;
+  if (words > memory->size / 2) fail("too many words lent");
+  set_rights(memory, good ? PROT_READ | PROT_WRITE : PROT_READ);
+  uint8_t *from = window(memory, words, &count);
+  if (good) memcpy(from, held_before(), count);
+  return (uint16_t *)place(memory, 2 * (size_t)words);
+}
+
+/* Holds those words to what a call that was to succeed, and did, has to leave: the first bytes are due, and all others as before. */
+static void same_words(const char *name, const fenced *memory, uint32_t words, const uint8_t *due, size_t due_count, uint32_t refusal) {
+  if (line.due[0] != CABINET_OK || refusal != CABINET_OK) return;
+  size_t count;
+  const uint8_t *from = window(memory, words, &count), *lent = place(memory, 2 * (size_t)words), *before = held_before();
+  size_t at = (size_t)(lent - from), end = at + due_count;
+  same_bytes(name, from, before, at, -(long)at);
+  same_bytes(name, lent, due, due_count, 0);
+  same_bytes(name, from + end, before + end, count - end, (long)due_count);
+}
+
+/* Plans with so many words of index and counters. */
+static cabinet_planned plan_indexed(const uint8_t *job, const uint32_t *f) {
+  uint8_t *lent = lend(f[0]);
+  uint16_t *index = lend_words(&indexes, f[2]), *counters = lend_words(&counts, f[3]);
+  cabinet_planned planned = cabinet_plan_indexed(job, job_len, lent, f[0], index, f[2], counters, f[3]);
+  same_memory(lent, planned.refusal);
+  same_words("index", &indexes, f[2], due_index, due_index_len, planned.refusal);
+  same_words("counters", &counts, f[3], zeros, 2 * (size_t)due_counters_len, planned.refusal);
+  return planned;
+}
+
+/* The time of so many calls of planning, by the second engine where it is asked for, or of writing a goal over so many propositions, in nanoseconds. */
+static void say_time(const uint8_t *job, uint32_t times, uint32_t propositions, uint32_t indexed) {
   struct timespec from, to;
   set_rights(&plans, PROT_READ | PROT_WRITE);
+  set_rights(&indexes, PROT_READ | PROT_WRITE);
+  set_rights(&counts, PROT_READ | PROT_WRITE);
+  uint16_t *index = (uint16_t *)indexes.inside, *counters = (uint16_t *)counts.inside;
   clock_gettime(CLOCK_MONOTONIC, &from);
+  for (; indexed && times > 0; times--)
+    cabinet_plan_indexed(job, job_len, plans.inside, CABINET_PLAN_MAX, index, CABINET_INDEX_MAX, counters, CABINET_COUNTERS_MAX);
   for (; propositions == 0 && times > 0; times--) cabinet_plan(job, job_len, plans.inside, CABINET_PLAN_MAX);
   for (; times > 0; times--) cabinet_goal(job, job_len, propositions, plans.inside, CABINET_GOAL_MAX);
   clock_gettime(CLOCK_MONOTONIC, &to);
@@ -163,6 +212,9 @@ static void call(void) {
     cabinet_planned planned = cabinet_plan(job, job_len, lent, f[0]);
     answer[0] = planned.refusal, answer[1] = planned.record;
     same_memory(lent, answer[0]);
+  } else if (line.what == INDEXED) {
+    cabinet_planned planned = plan_indexed(job, f);
+    answer[0] = planned.refusal, answer[1] = planned.record;
   } else if (line.what == GOAL) {
     uint8_t *lent = lend(f[0]);
     cabinet_written goal = cabinet_goal(job, job_len, f[2], lent, f[0]);
@@ -185,7 +237,7 @@ static void call(void) {
 
 /* Steps over a fence or writes to locked memory, to show that it ends the call. */
 static void step_over(int fence) {
-  fenced *memory = fence < 3 ? &jobs : &plans;
+  fenced *all[] = {&jobs, &plans, &indexes, &counts}, *memory = all[fence / 3 % 4];
   volatile uint8_t *at = memory->inside;
   set_rights(memory, PROT_READ);
   if (fence % 3 == 0) at[-1];
@@ -198,6 +250,8 @@ int main(int words, char **word) {
   for (size_t i = 0; i < sizeof sudden_ends / sizeof *sudden_ends; i++) signal(sudden_ends[i], ended);
   set_fences(&jobs);
   set_fences(&plans);
+  set_fences(&indexes);
+  set_fences(&counts);
   if (words > 1) step_over(atoi(word[1]));
   uint32_t seed = 1;
   for (size_t i = 0; i < sizeof pool; i++) pool[i] = (uint8_t)((seed = seed * 1664525u + 1013904223u) >> 24);
@@ -212,9 +266,13 @@ int main(int words, char **word) {
       due_len = line.length;
       if (due_len > sizeof due_plan || fread(due_plan, 1, due_len, stdin) != due_len) fail("a line without its bytes");
       break;
+    case DUE_INDEX:
+      due_index_len = line.length, due_counters_len = line.figures[0];
+      if (due_index_len > sizeof due_index || fread(due_index, 1, due_index_len, stdin) != due_index_len) fail("a line without its bytes");
+      break;
     case LEND: lent_len = take(&plans); break;
     case TIME_CHECK: say_check_time(place(&jobs, job_len), line.figures[0]); break;
-    case TIME: say_time(place(&jobs, job_len), line.figures[0], line.figures[1]); break;
+    case TIME: say_time(place(&jobs, job_len), line.figures[0], line.figures[1], line.figures[2]); break;
     case TIME_START:
     case TIME_FOLLOW: say_move_time(place(&jobs, job_len)); break;
     default: call();

@@ -8,6 +8,10 @@ use std::process::{Child, ChildStdout, Command, Stdio};
 /// As much memory for a plan as the caller has between its fences.
 pub const PLAN_SIZE: usize = 17 * 4_096;
 
+/// As many words of an index and of counters as the caller has between its fences.
+pub const INDEX_WORDS: usize = 5 * 2_048;
+pub const COUNTERS_WORDS: usize = 130 * 2_048;
+
 /// Which end of the lent memory touches a fence.
 #[derive(Clone, Copy, PartialEq, Eq)]
 pub enum Side {
@@ -33,6 +37,8 @@ enum What {
     Advice,
     Time,
     Goal,
+    DueIndex,
+    Indexed,
     Check,
     TimeStart,
     TimeFollow,
@@ -73,7 +79,7 @@ fn command() -> Command {
 
 /// Ends the run unless each of the caller's fences stops a step over it.
 pub fn fences_hold() {
-    for fence in 0..6 {
+    for fence in 0..12 {
         let ended = command().arg(fence.to_string()).output().expect("the caller can be started");
         if !String::from_utf8_lossy(&ended.stdout).contains("memory fence touched") {
             println!("fence {fence} of the caller does not hold: it ended with {}", ended.status);
@@ -115,6 +121,12 @@ impl Cases {
         self.line(What::Due, Side::Begin, plan, [0; 4], [0; 5]);
     }
 
+    /// The index that planning with one has to leave, and how many counters it has to clear.
+    pub fn due_index(&mut self, index: &[u16], counters: usize) {
+        let bytes: Vec<u8> = index.iter().flat_map(|word| word.to_le_bytes()).collect();
+        self.line(What::DueIndex, Side::Begin, &bytes, [counters as u32, 0, 0, 0], [0; 5]);
+    }
+
     /// The bytes that advice and the check get as their plan.
     pub fn lend(&mut self, side: Side, plan: &[u8]) {
         self.line(What::Lend, side, plan, [0; 4], [0; 5]);
@@ -123,6 +135,9 @@ impl Cases {
     pub fn call(&mut self, call: Call, due: Answer) {
         let (what, side, figures) = match call {
             Call::Plan { plan_len, before, side } => (What::Plan, side, [plan_len as u32, before, 0, 0]),
+            Call::Indexed { plan_len, before, index_len, counters_len, side } => {
+                (What::Indexed, side, [plan_len as u32, before, index_len as u32, counters_len as u32])
+            }
             Call::Start { side } => (What::Start, side, [0; 4]),
             Call::Follow { state, goal, action, outcome, side } => (What::Follow, side, [state, goal, action, outcome]),
             Call::Advice { state, goal, side, .. } => (What::Advice, side, [state, goal, 0, 0]),
@@ -136,9 +151,9 @@ impl Cases {
         self.made += 1;
     }
 
-    /// The seconds that so many calls of planning take, or of writing a goal over so many propositions.
-    pub fn time(&mut self, side: Side, times: u32, propositions: u32) -> f64 {
-        self.timed(What::Time, side, [times, propositions, 0, 0])
+    /// The seconds that so many calls of planning take, by the second engine where it is asked for, or of writing a goal over so many propositions.
+    pub fn time(&mut self, side: Side, times: u32, propositions: u32, indexed: bool) -> f64 {
+        self.timed(What::Time, side, [times, propositions, u32::from(indexed), 0])
     }
 
     /// The seconds that so many calls of starting take.

@@ -21,6 +21,14 @@ pub enum Call {
         before: u32,
         side: Side,
     },
+    /// Planning with an index: lengths in bytes and in words; what all three buffers hold before is chosen by a figure.
+    Indexed {
+        plan_len: usize,
+        before: u32,
+        index_len: usize,
+        counters_len: usize,
+        side: Side,
+    },
     Start {
         side: Side,
     },
@@ -55,6 +63,10 @@ impl Display for Call {
     fn fmt(&self, to: &mut Formatter) -> Result {
         match self {
             Call::Plan { plan_len, side, .. } => write!(to, "cabinet_plan, plan_len {plan_len}; {side}"),
+            Call::Indexed { plan_len, index_len, counters_len, side, .. } => {
+                write!(to, "cabinet_plan_indexed, plan_len {plan_len}, index_len {index_len}, ")?;
+                write!(to, "counters_len {counters_len}; {side}")
+            }
             Call::Start { side } => write!(to, "cabinet_start; {side}"),
             Call::Follow { state, goal, action, outcome, side } => {
                 write!(to, "cabinet_follow, state {state}, goal {goal}, action {action}, outcome {outcome}; {side}")

@@ -1,12 +1,12 @@
 //! Times the check of a plan beside planning, in turn.
 
-use super::{median, table, REPEATS, SPAN};
+use super::{median, table, SPAN};
 use crate::cases::{Cases, Side};
 use crate::oracle::Oracle;
 use crate::report::Call;
 
 /// The seconds for one call of planning and for one check of the plan, which passes.
-fn times(cases: &mut Cases, job: &[u8]) -> [f64; 2] {
+fn times(cases: &mut Cases, job: &[u8], repeats: usize) -> [f64; 2] {
     let oracle = Oracle::new(job);
     cases.due(&oracle.plan);
     cases.input(0, Side::End, job);
@@ -17,7 +17,7 @@ fn times(cases: &mut Cases, job: &[u8]) -> [f64; 2] {
             cases.call(Call::Check { plan_len: oracle.plan.len(), side: Side::End }, [0; 5]);
             cases.time_check(Side::End, calls)
         } else {
-            cases.time(Side::End, calls, 0)
+            cases.time(Side::End, calls, 0, false)
         }
     };
     let calls = [false, true].map(|check| {
@@ -28,7 +28,7 @@ fn times(cases: &mut Cases, job: &[u8]) -> [f64; 2] {
         calls
     });
     let mut all = [Vec::new(), Vec::new()];
-    for _ in 0..REPEATS {
+    for _ in 0..repeats {
         for check in [false, true] {
             let index = usize::from(check);
             all[index].push(taken(check, calls[index]) / f64::from(calls[index]));
@@ -37,13 +37,13 @@ fn times(cases: &mut Cases, job: &[u8]) -> [f64; 2] {
     all.map(median)
 }
 
-pub fn print(cases: &mut Cases, jobs: &[(&str, Vec<u8>)]) {
+pub fn print(cases: &mut Cases, jobs: &[(&str, Vec<u8>, usize)]) {
     println!("Time for one check of a plan that passes, beside planning; the check plans the job for itself.");
     println!();
     println!("| job | planning | check | check / planning |");
     println!("|---|---:|---:|---:|");
-    for (name, job) in jobs {
-        let [planning, check] = times(cases, job);
+    for (name, job, repeats) in jobs {
+        let [planning, check] = times(cases, job, *repeats);
         println!("| {name} | {} | {} | {:.3} |", table::unit(planning), table::unit(check), check / planning);
     }
 }

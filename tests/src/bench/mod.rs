@@ -8,17 +8,23 @@ use crate::cases::{Cases, Side};
 use crate::make::{self, known, Doubt};
 use crate::oracle::Oracle;
 use crate::report::Call;
+use plain::Method;
 use std::hint::black_box;
 use std::time::Instant;
 
 const SEED: u64 = 1;
 /// Each time in the table is the median of so many, taken in turn.
 const REPEATS: usize = 15;
+/// Of the deepest tall jobs, where rounds take seconds, and of the rings of so many places so many.
+const DEAR_REPEATS: usize = 3;
 /// A time is taken over as many calls as fill this.
 const SPAN: f64 = 0.005;
 
 /// A planner under the clock, from job bytes to plan bytes: the seconds that so many calls take.
 type Voice = fn(&mut Cases, &[u8], &mut [u8], u32) -> f64;
+
+/// How many planners there are.
+const COUNT: usize = 5;
 
 /// One line of the table: times for one call, in seconds.
 pub struct Line {
@@ -27,17 +33,31 @@ pub struct Line {
     places: usize,
     moves: usize,
     largest: usize,
-    times: [f64; 3],
+    times: [f64; COUNT],
 }
 
 fn by_library(cases: &mut Cases, _: &[u8], _: &mut [u8], calls: u32) -> f64 {
-    cases.time(Side::End, calls, 0)
+    cases.time(Side::End, calls, 0, false)
+}
+
+fn by_second_engine(cases: &mut Cases, _: &[u8], _: &mut [u8], calls: u32) -> f64 {
+    cases.time(Side::End, calls, 0, true)
 }
 
 fn by_plain(_: &mut Cases, job: &[u8], plan: &mut [u8], calls: u32) -> f64 {
     let start = Instant::now();
     for _ in 0..calls {
-        assert_eq!(plain::plan(black_box(job), black_box(&mut *plan)), 0);
+        assert_eq!(plain::plan(black_box(job), black_box(&mut *plan), Method::Rounds), 0);
+    }
+    start.elapsed().as_secs_f64()
+}
+
+fn by_plain_backward(_: &mut Cases, job: &[u8], plan: &mut [u8], calls: u32) -> f64 {
+    let (mut index, mut counters) = (vec![0; 8_704], vec![0; 262_144]);
+    let start = Instant::now();
+    for _ in 0..calls {
+        let method = Method::Backward { index: black_box(&mut index), counters: black_box(&mut counters) };
+        assert_eq!(plain::plan(black_box(job), black_box(&mut *plan), method), 0);
     }
     start.elapsed().as_secs_f64()
 }
@@ -51,7 +71,7 @@ fn by_oracle(_: &mut Cases, job: &[u8], plan: &mut [u8], calls: u32) -> f64 {
     start.elapsed().as_secs_f64()
 }
 
-const VOICES: [Voice; 3] = [by_library, by_plain, by_oracle];
+const VOICES: [Voice; COUNT] = [by_library, by_plain, by_second_engine, by_plain_backward, by_oracle];
 
 /// How many calls fill the span.
 fn calls(cases: &mut Cases, voice: Voice, job: &[u8], plan: &mut [u8]) -> u32 {
@@ -67,20 +87,26 @@ fn median(mut times: Vec<f64>) -> f64 {
     times[times.len() / 2]
 }
 
-fn measure(cases: &mut Cases, name: &'static str, job: &[u8]) -> Line {
+fn measure(cases: &mut Cases, name: &'static str, job: &[u8], repeats: usize) -> Line {
     let oracle = Oracle::new(job);
     let mut plan = vec![0; 65_536];
     cases.due(&oracle.plan);
     cases.input(0, Side::End, job);
     cases.call(Call::Plan { plan_len: plan.len(), before: 0, side: Side::End }, [0; 5]);
-    for voice in [by_plain, by_oracle] as [Voice; 2] {
+    if let Ok(read) = &oracle.job {
+        cases.due_index(&read.index(), read.counters());
+        let (index_len, counters_len) = (read.index().len(), read.counters());
+        let call = Call::Indexed { plan_len: plan.len(), before: 0, index_len, counters_len, side: Side::End };
+        cases.call(call, [0; 5]);
+    }
+    for voice in [by_plain, by_plain_backward, by_oracle] as [Voice; 3] {
         plan.fill(0xAA);
         voice(cases, job, &mut plan, 1);
         assert!(plan.starts_with(&oracle.plan), "{name}: the planners differ");
     }
     let calls = VOICES.map(|voice| calls(cases, voice, job, &mut plan));
-    let mut times = [(); 3].map(|()| Vec::new());
-    for _ in 0..REPEATS {
+    let mut times = [(); COUNT].map(|()| Vec::new());
+    for _ in 0..repeats {
         for (index, voice) in VOICES.into_iter().enumerate() {
             let taken = voice(cases, job, &mut plan, calls[index]);
             times[index].push(taken / f64::from(calls[index]));
@@ -95,16 +121,20 @@ fn measure(cases: &mut Cases, name: &'static str, job: &[u8]) -> Line {
 pub fn bench(date: &str) {
     let cases = &mut Cases::new();
     let jobs = [
-        ("One plate", known::one_plate()),
-        ("middling", make::middling(SEED)),
-        ("longest", make::longest(SEED)),
-        ("deepest, all winning", make::deepest(SEED, Doubt::None)),
-        ("deepest, all pending", make::deepest(SEED, Doubt::AtTheEnd)),
-        ("longest tall", make::longest_tall(SEED)),
-        ("deepest tall, all winning", make::deepest_tall(SEED, Doubt::None)),
+        ("One plate", known::one_plate(), REPEATS),
+        ("middling", make::middling(SEED), REPEATS),
+        ("longest", make::longest(SEED), REPEATS),
+        ("deepest, all winning", make::deepest(SEED, Doubt::None), REPEATS),
+        ("deepest, all pending", make::deepest(SEED, Doubt::AtTheEnd), REPEATS),
+        ("longest tall", make::longest_tall(SEED), REPEATS),
+        ("deepest tall, all winning", make::deepest_tall(SEED, Doubt::None), DEAR_REPEATS),
+        ("deepest tall, all pending", make::deepest_tall(SEED, Doubt::AtTheEnd), DEAR_REPEATS),
     ];
-    let lines = jobs.each_ref().map(|(name, job)| measure(cases, name, job));
-    table::print(&lines, date, REPEATS);
+    let lines = jobs.each_ref().map(|(name, job, repeats)| measure(cases, name, job, *repeats));
+    table::print(&lines, date, [REPEATS, DEAR_REPEATS]);
+    println!();
+    let rings = [2, 8, 32, 128, 512].map(|states| measure(cases, "ring", &make::ring(SEED, states), DEAR_REPEATS));
+    table::growth(&rings);
     println!();
     checks::print(cases, &jobs);
     println!();
@@ -141,5 +171,5 @@ fn moving(cases: &mut Cases, job: &[u8]) -> [f64; 4] {
 fn longest_goal(cases: &mut Cases) -> f64 {
     const CALLS: u32 = 1_000;
     cases.input(0, Side::End, &[2, 0, 5, 3, 4, 1, 2, 3, 2]);
-    median((0..REPEATS).map(|_| cases.time(Side::End, CALLS, 6) / f64::from(CALLS)).collect())
+    median((0..REPEATS).map(|_| cases.time(Side::End, CALLS, 6, false) / f64::from(CALLS)).collect())
 }

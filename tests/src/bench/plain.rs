@@ -1,4 +1,7 @@
-//! The planner's own method in plain Rust: rounds over a set of places, with each state's records looked at in turn.
+//! Planning in plain Rust by either of the library's methods: rounds over a set of places, with each state's records looked at in turn, or
+//! backward with an index.
+
+mod backward;
 
 const PLACES: usize = 16_384;
 
@@ -60,6 +63,7 @@ impl Record for [u8; 5] {
 
 struct Job<'a, R> {
     states: usize,
+    actions: usize,
     propositions: u8,
     goals: usize,
     labels: &'a [u8],
@@ -133,7 +137,7 @@ fn read<'a, R: Record>(
     check(goal.len() == table + goals, 6)?;
     let (next, marks) = goal.split_at(table);
     check(next.iter().all(|&next| usize::from(next) < goals) && marks.iter().all(|&mark| mark <= 1), 6)?;
-    Ok(Job { states, propositions: propositions as u8, goals, labels, moves, next, marks })
+    Ok(Job { states, actions, propositions: propositions as u8, goals, labels, moves, next, marks })
 }
 
 /// The actions all of whose outcomes lie in the set.
@@ -188,8 +192,17 @@ fn rounds<R: Record>(
     }
 }
 
-fn plan_read<R: Record>(job: Job<R>, plan: &mut [u8]) -> Result<(), u32> {
+/// Which method, with the memory that it is lent.
+pub enum Method<'a> {
+    Rounds,
+    Backward { index: &'a mut [u16], counters: &'a mut [u16] },
+}
+
+fn plan_read<R: Record>(job: Job<R>, plan: &mut [u8], method: Method) -> Result<(), u32> {
     let (plan, _) = plan.as_chunks_mut::<4>().0.split_at_mut_checked(job.places()).ok_or(7_u32)?;
+    if let Method::Backward { index, counters } = method {
+        return backward::plan(&job, plan, index, counters);
+    }
     let mut set = Set { words: [0; PLACES / 64], used: job.places().div_ceil(64) };
     for (place, entry) in plan.iter_mut().enumerate() {
         let accepted = job.accepted(place);
@@ -203,23 +216,23 @@ fn plan_read<R: Record>(job: Job<R>, plan: &mut [u8]) -> Result<(), u32> {
     Ok(())
 }
 
-fn plan_bytes(job: &[u8], plan: &mut [u8]) -> Result<(), u32> {
+fn plan_bytes(job: &[u8], plan: &mut [u8], method: Method) -> Result<(), u32> {
     let bodies = bodies(job)?;
     match *bodies[0] {
         [s, a, p, q, first, goal] => {
             let counts = [s, a, p, q, first, goal].map(usize::from);
-            plan_read(read(counts, [128, 4_096], bodies, bodies[2].as_chunks::<3>())?, plan)
+            plan_read(read(counts, [128, 4_096], bodies, bodies[2].as_chunks::<3>())?, plan, method)
         }
         [s, s_high, a, p, q, first, first_high, goal] => {
             let wide = |low, high| u16::from_le_bytes([low, high]);
             let counts = [wide(s, s_high), a.into(), p.into(), q.into(), wide(first, first_high), goal.into()];
-            plan_read(read(counts.map(usize::from), [512, 8_192], bodies, bodies[2].as_chunks::<5>())?, plan)
+            plan_read(read(counts.map(usize::from), [512, 8_192], bodies, bodies[2].as_chunks::<5>())?, plan, method)
         }
         _ => Err(2),
     }
 }
 
 /// Plans a job into the buffer and gives the refusal, 0 when there is none.
-pub fn plan(job: &[u8], plan: &mut [u8]) -> u32 {
-    plan_bytes(job, plan).err().unwrap_or(0)
+pub fn plan(job: &[u8], plan: &mut [u8], method: Method) -> u32 {
+    plan_bytes(job, plan, method).err().unwrap_or(0)
 }

@@ -20,18 +20,38 @@ pub fn unit(seconds: f64) -> String {
     }
 }
 
-pub fn print(lines: &[Line], date: &str, repeats: usize) {
+pub fn print(lines: &[Line], date: &str, [repeats, dear]: [usize; 2]) {
     println!("Machine: {}. Date: {date}.", machine());
     println!();
-    println!("Time for one call of planning, the median of {repeats} repeats with the three planners in turn.");
-    println!("Buffers are not cleared between runs. The plans of all three were compared and are the same.");
+    println!("Time for one call of planning, the median of {repeats} repeats, {dear} for the deepest tall jobs, with the planners in turn:");
+    println!("rounds are `cabinet_plan`, backward is `cabinet_plan_indexed`, each beside the same method in plain Rust, and the oracle of the tests.");
+    println!("Buffers are not cleared between runs. The plans of all were compared and are the same.");
     println!();
-    println!("| job | bytes | places | moves | largest number | library | plain Rust | oracle | library / plain | oracle / plain |");
+    println!("| job | bytes | places | moves | largest number | rounds | plain rounds | backward | plain backward | oracle |");
     println!("|---|---:|---:|---:|---:|---:|---:|---:|---:|---:|");
     for line in lines {
-        let [library, plain, oracle] = line.times;
         print!("| {} | {} | {} | {} | {} ", line.name, line.bytes, line.places, line.moves, line.largest);
-        print!("| {} | {} | {} ", unit(library), unit(plain), unit(oracle));
-        println!("| {:.3} | {:.3} |", library / plain, oracle / plain);
+        println!("| {} |", line.times.map(unit).join(" | "));
+    }
+    println!();
+    println!("| job | rounds / plain | backward / plain | rounds / backward | backward / oracle |");
+    println!("|---|---:|---:|---:|---:|");
+    for line in lines {
+        let [rounds, plain, backward, plain_backward, oracle] = line.times;
+        print!("| {} | {:.3} | {:.3} ", line.name, rounds / plain, backward / plain_backward);
+        println!("| {:.1} | {:.3} |", rounds / backward, backward / oracle);
+    }
+}
+
+/// How the times grow with the places of a ring in which the number of each place is one more than the next one's.
+pub fn growth(lines: &[Line]) {
+    println!("Growth: rings of states with 32 goal states, a record for each state, in which every place has a number of its own.");
+    println!();
+    println!("| places | largest number | rounds | backward | backward, a place | rounds / backward |");
+    println!("|---:|---:|---:|---:|---:|---:|");
+    for line in lines {
+        let [rounds, _, backward, ..] = line.times;
+        print!("| {} | {} | {} | {} ", line.places, line.largest, unit(rounds), unit(backward));
+        println!("| {} | {:.1} |", unit(backward / line.places as f64), rounds / backward);
     }
 }

@@ -2,6 +2,7 @@
 
 mod advising;
 mod figures;
+mod indexing;
 mod known;
 mod moving;
 mod planning;
@@ -48,6 +49,7 @@ impl Desk {
         self.tally.input(input.kind, &oracle);
         if let Ok(job) = &oracle.job {
             self.third_voice(input, job, &oracle);
+            self.cases.due_index(&job.index(), job.counters());
         }
         self.cases.calls.clear();
         self.cases.due(&oracle.plan);
@@ -68,6 +70,7 @@ impl Desk {
             tally: &mut self.tally,
         };
         trial.planning();
+        trial.indexing();
         trial.moving();
         trial.advising();
     }

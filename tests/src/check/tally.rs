@@ -10,7 +10,7 @@ pub struct Tally {
     /// Refusals of jobs, 0 for the good ones.
     jobs: [u64; 14],
     /// Answers of all calls by refusal.
-    answers: [u64; 14],
+    answers: [u64; 18],
     /// Entries: losing, pending, winning but not accepted, accepted.
     entries: [u64; 4],
     /// Entries where the goal state is final and the state busy: losing, pending, winning.
@@ -77,7 +77,7 @@ impl Tally {
     pub fn covered(&self) -> bool {
         let answers = self.answers.iter().enumerate().filter(|(_, &count)| count > 0);
         let answers: Vec<usize> = answers.map(|(refusal, _)| refusal).collect();
-        answers == [0, 1, 2, 3, 4, 5, 6, 7, 9, 10, 11, 12, 13]
+        answers == [0, 1, 2, 3, 4, 5, 6, 7, 9, 10, 11, 12, 13, 17]
             && self.entries.iter().all(|&count| count > 0)
             && self.busy.iter().all(|&count| count > 0)
             && self.largest == 512 * 32 - 1

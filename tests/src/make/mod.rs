@@ -57,6 +57,12 @@ pub fn in_the_tall_form(job: &[u8]) -> Vec<u8> {
     Parts::of(job).in_the_tall_form().bytes()
 }
 
+/// A ring of so many states with one record each and 32 goal states, which ends in one place.
+pub fn ring(seed: u64, states: usize) -> Vec<u8> {
+    let size = Size { form: Form::Tall, states, actions: 1, propositions: 1, goals: 32, moves: states };
+    chain::job(&mut Random::new(seed, 4), size, Doubt::None, End::OnePlace).bytes()
+}
+
 pub fn middling(seed: u64) -> Vec<u8> {
     let size = Size { form: Form::Old, states: 32, actions: 8, propositions: 3, goals: 8, moves: 512 };
     chain::job(&mut Random::new(seed, 2), size, Doubt::Somewhere, End::AnyState).bytes()

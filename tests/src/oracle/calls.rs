@@ -72,6 +72,15 @@ impl Oracle {
         [refused.number, refused.record, 0, 0, 0]
     }
 
+    /// What planning with an index answers, with so many words of index and counters.
+    pub fn plan_indexed(&self, room: usize, index: usize, counters: usize) -> Answer {
+        let short = |job: &Job| index < job.states + job.moves.len() || counters < job.counters();
+        match (self.plan(room), &self.job) {
+            ([0, ..], Ok(job)) if short(job) => [MEMORY, 0, 0, 0, 0],
+            (answer, _) => answer,
+        }
+    }
+
     pub fn start(&self) -> Answer {
         let start = |job: &Job| [job.first_state, job.goal_after(job.first_goal, job.first_state), 0];
         moved(self.job().map(|job| start(job).map(|figure| figure as u32)))

@@ -2,6 +2,7 @@
 
 mod calls;
 mod checking;
+mod index;
 mod listing;
 mod plan;
 mod read;
