@@ -12,7 +12,7 @@ use lib.Dec.{eqb, ltb}
 use lib.ListN.{length, getD}
 use Rattle.rules.specs.Bytes.{said}
 use Rattle.rules.specs.Keeps.{Keeps}
-use Rattle.sets.specs.Sets.{set-room, member, Put}
+use Rattle.sets.specs.Sets.{set-words, set-room, member, Put}
 use Rattle.game.specs.Game.{says}
 use Rattle.game.specs.Below.{some-below}
 use Rattle.rules.specs.Job.{Job, place, places, entry-number, arena}
@@ -214,11 +214,13 @@ pub laying-end : {b : List ℕ} {l : Layout} (t : Fit b l) {v : Phase} {n : ℕ}
     {x : ℕ}
     → Between (said b) v taken₀ known → places (said b) ≤ x
     → Laying (said b) v n known taken₀ plan₀ counters₀ x taken new plan counters
-    → Layered b l v n known plan₀ counters₀ new plan counters
-laying-end {b} {l} t {v} {n} {known} {taken₀} {plan₀} {counters₀} {taken} {new} {plan} {counters} {x} r past y =
+    → length taken₀ ≡ set-words → Layered b l v n known plan₀ counters₀ taken new plan counters
+laying-end {b} {l} t {v} {n} {known} {taken₀} {plan₀} {counters₀} {taken} {new} {plan} {counters} {x} r past y many =
     record {
+      taken-many = y .taken-many ∙ many;
+      takes = same;
       passed = subst (λ (m : Layout). Passed b m v n known 0 (m .states * m .goals) known plan₀ new plan) (sym (t .is-layout)) pass;
-      counted = rw (← all-taken) (y .counted);
+      counted = y .counted;
     }
   where
     same : (z : ℕ) → member taken z ≡ member known z

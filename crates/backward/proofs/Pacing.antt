@@ -24,7 +24,8 @@ use Rattle.phases.specs.Wanted.{in-set, wanted}
 use Rattle.phases.specs.Pass.{place-at}
 use Rattle.phases.specs.Round.{Passed}
 use Rattle.phases.proofs.Passes.{between-zero}
-use Rattle.backward.specs.Layer.{Between}
+use Rattle.backward.specs.Counts.{Counted}
+use Rattle.backward.specs.Layer.{unsure, Between, Layered}
 
 -- with no place taken, a phase looks for no action
 wanted-none : (v : Phase) (G : Arena) (p : G .Place) (a : ℕ) → wanted v G (λ t. false) p a ≡ false
@@ -87,3 +88,18 @@ module _ {b : List ℕ} {l : Layout} (t : Fit b l) {v : Phase} {n : ℕ} {taken 
 
   pub no-fewer : (room : ℕ) → count (member known) room ≤ count (member new) room
   no-fewer = count-sub (member known) (member new) still-known
+
+-- sets with the same places
+pub between-same : {j : Job} {v : Phase} {taken known new : List ℕ} → ((x : ℕ) → member taken x ≡ member known x) → Between j v known new
+    → Between j v taken new
+between-same {j} {taken} {known} e r =
+    let same : in-set (j .goals) taken ≡ in-set (j .goals) known = fun-ext (λ p. e (entry-number (j .goals) p)) in
+    record { within = λ x m. r .within x (sym (e x) ∙ m); inside = r .inside; none-else = rw same (r .none-else) }
+
+-- the counters that a layer leaves are those of the places that were known
+pub layered-counted : {b : List ℕ} {l : Layout} {v : Phase} {n : ℕ} {known plan counters taken new plan′ counters′ : List ℕ}
+    → Layered b l v n known plan counters taken new plan′ counters′
+    → Counted (said b) (unsure v (said b) (in-set (said b .goals) known)) counters counters′
+layered-counted {b} {known} {taken} y =
+    let same : in-set (said b .goals) taken ≡ in-set (said b .goals) known = fun-ext (λ p. y .takes (entry-number (said b .goals) p)) in
+    rw (← same) (y .counted)

@@ -5,7 +5,7 @@ use mathlib.Core.List.{List}
 use mathlib.Core.Path.{_≡_}
 use lib.ListN.{length}
 use Rattle.rules.specs.Bytes.{said}
-use Rattle.sets.specs.Sets.{member, Put}
+use Rattle.sets.specs.Sets.{set-words, member, Put}
 use Rattle.game.specs.Below.{some-below}
 use Rattle.rules.specs.Job.{Job, places, arena}
 use Rattle.rules.specs.declared.place.Place.{Place}
@@ -41,14 +41,19 @@ pub record Between (j : Job) (v : Phase) (taken known : List ℕ) : Type 0 where
       → some-below (j .actions) (wanted v (arena j) (in-set (j .goals) taken) (place-at (j .goals) x)) ≡ false
 
 -- what a layer relies on
-pub record LayerReady (b : List ℕ) (l : Layout) (index : List ℕ) (v : Phase) (taken known plan counters : List ℕ) : Type 0 where
+pub record LayerReady (b : List ℕ) (l : Layout) (index : List ℕ) (v : Phase) (taken known new plan counters : List ℕ) : Type 0 where
   pub fit : Fit b l
   pub lists : Lists (said b) index
+  pub taken-many : length taken ≡ set-words
+  pub known-many : length known ≡ set-words
+  pub as-known : new ≡ known
   pub room : 4 * (l .states * l .goals) ≤ length plan
   pub between : Between (said b) v taken known
   pub counted : Counts (said b) (unsure v (said b) (in-set (said b .goals) taken)) counters
 
--- what it leaves: the set and the plan of one round more, and the counters with every known place taken
-pub record Layered (b : List ℕ) (l : Layout) (v : Phase) (n : ℕ) (known plan counters new plan′ counters′ : List ℕ) : Type 0 where
+-- what it leaves: every known place taken, the set and the plan of one round more, and the counters of the places taken
+pub record Layered (b : List ℕ) (l : Layout) (v : Phase) (n : ℕ) (known plan counters taken′ new plan′ counters′ : List ℕ) : Type 0 where
+  pub taken-many : length taken′ ≡ set-words
+  pub takes : (x : ℕ) → member taken′ x ≡ member known x
   pub passed : Passed b l v n known 0 (l .states * l .goals) known plan new plan′
-  pub counted : Counted (said b) (unsure v (said b) (in-set (said b .goals) known)) counters counters′
+  pub counted : Counted (said b) (unsure v (said b) (in-set (said b .goals) taken′)) counters counters′

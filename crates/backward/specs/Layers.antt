@@ -5,7 +5,7 @@ use mathlib.Core.List.{List}
 use mathlib.Core.Path.{_≡_}
 use lib.ListN.{length}
 use Rattle.rules.specs.Bytes.{said}
-use Rattle.sets.specs.Sets.{member}
+use Rattle.sets.specs.Sets.{set-words, member}
 use Rattle.rules.specs.Job.{places}
 use Rattle.sets.specs.declared.places.PlaceSet.{PlaceSet}
 use Rattle.job.specs.Layout.{Fit}
@@ -23,6 +23,7 @@ pub record LayersReady (b : List ℕ) (l : Layout) (index : List ℕ) (v : Phase
   pub fit : Fit b l
   pub lists : Lists (said b) index
   pub room : 4 * (l .states * l .goals) ≤ length plan
+  pub words : length known ≡ set-words
   pub inside : (x : ℕ) → member known x ≡ true → x < places (said b)
   pub counted : Counts (said b) (unsure v (said b) (λ p. false)) counters
 

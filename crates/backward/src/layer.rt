@@ -13,7 +13,6 @@ ghost use Rattle.backward.specs.Counts.{Counts};
 ghost use Rattle.backward.specs.Layer.{unsure, Spent, TakenBy, LayerReady, Layered};
 use job::layout::Layout;
 use phases::phase::Phase;
-use sets::places::PlaceSet;
 use sets::places::WORDS;
 
 // Whether the place whose entry is x is known and not taken.
@@ -66,48 +65,46 @@ fn take_one(
     }
 }
 
-// One layer: the places of the set that are not in the old one are taken; the set is handed back with the places that join.
+// One layer: the known places that are not taken are taken, and others join the new set, which has the known places at first.
 pub fn layer(
+    new: &mut [u64; WORDS],
+    taken: &mut [u64; WORDS],
     plan: &mut [u8],
     counters: &mut [u16],
     job: &[u8],
     l: Layout,
     index: &[u16],
-    old: PlaceSet,
-    set: PlaceSet,
+    known: &[u64; WORDS],
     phase: Phase,
     number: u16,
-) -> PlaceSet
-    requires { ⌜ LayerReady (now job) l (now index) phase (old .words) (set .words) (now plan) (now counters) ⌝ }
-    ensures { λ r. ⌜ Layered (now (job .entry)) l phase number (set .words) (now (plan .entry)) (now (counters .entry))
-        (r .words) (now (plan .exit)) (now (counters .exit)) ⌝ }
+)
+    requires { ⌜ LayerReady (now job) l (now index) phase (now taken) (now known) (now new) (now plan) (now counters) ⌝ }
+    ensures { λ _. ⌜ Layered (now (job .entry)) l phase number (now (known .entry)) (now (plan .entry)) (now (counters .entry))
+        (now (taken .exit)) (now (new .exit)) (now (plan .exit)) (now (counters .exit)) ⌝ }
 {
-    let known = set.words;
-    let mut taken = old.words;
-    let mut new = set.words;
     let value = phases::phase::value_of(phase);
     let goals = l.goals;
     let n = l.states * goals;
     let mut x: usize = 0;
     while x < n {
         let at = x;
-        if is_spent(&known, &taken, at) {
+        if is_spent(known, taken, at) {
             x += 64;
             continue;
         }
         x += 1;
-        if is_due(&known, &taken, at) {
+        if is_due(known, taken, at) {
             let t = at / goals;
             let g = at % goals;
-            take_one(&mut taken, counters, job, l, index, t, g, phase);
+            take_one(taken, counters, job, l, index, t, g, phase);
             crate::note::note(
-                &mut new,
+                new,
                 plan,
                 counters,
                 job,
                 l,
                 index,
-                &known,
+                known,
                 t,
                 g,
                 value,
@@ -115,5 +112,4 @@ pub fn layer(
             );
         }
     }
-    PlaceSet { words: new }
 }

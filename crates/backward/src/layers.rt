@@ -25,28 +25,30 @@ pub fn all_layers(
         r (now (plan .exit)) (now (counters .exit)) ⌝ }
 {
     let used = sets::places::words_for(l.states * l.goals);
-    let mut old = PlaceSet::empty();
-    let mut got = set;
+    let none = PlaceSet::empty();
+    let mut taken = none.words;
+    let mut new = set.words;
+    let mut known = set;
     let mut few = sets::places::size_of(&set.words, used);
     let mut k: usize = 0;
     loop {
-        let next = crate::layer::layer(
+        crate::layer::layer(
+            &mut new,
+            &mut taken,
             plan,
             counters,
             job,
             l,
             index,
-            old,
-            got,
+            &known.words,
             phase,
             (k + 1) as u16,
         );
-        let more = sets::places::size_of(&next.words, used);
+        let more = sets::places::size_of(&new, used);
         if more == few {
-            return next;
+            return PlaceSet { words: new };
         }
-        old = got;
-        got = next;
+        known = PlaceSet { words: new };
         few = more;
         k += 1;
     }
