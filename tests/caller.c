@@ -16,7 +16,7 @@
 
 #include "cabinet.h"
 
-enum { PAGE = 4096, JOB_SIZE = 20 * PAGE, PLAN_SIZE = 17 * PAGE, INDEX_SIZE = 5 * PAGE, COUNTERS_SIZE = 130 * PAGE };
+enum { PAGE = 4096, JOB_SIZE = 28 * PAGE, PLAN_SIZE = 17 * PAGE, INDEX_SIZE = 5 * PAGE, COUNTERS_SIZE = 130 * PAGE };
 enum { INPUT, DUE, LEND, PLAN, START, FOLLOW, ADVICE, TIME, GOAL, DUE_INDEX, INDEXED, CHECK, TIME_START, TIME_FOLLOW, TIME_CHECK };
 
 /* A line: what to do, the side of the fence (1: buffers begin after it), how many bytes come after it, the call's figures, the answer that is due. */
