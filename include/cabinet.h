@@ -73,7 +73,6 @@ enum cabinet_refusal {
   CABINET_GOAL = 6,        /* Goal has the wrong length, a goal state is not below Q, or a mark is above 1 */
   CABINET_ROOM = 7,        /* the plan buffer is under 4 * S * Q bytes, or the Goal body has no room */
   CABINET_MEMORY = 17,     /* the index is under S + records words, or the counters are under S * Q * A */
-  CABINET_ROUNDS = 8,      /* labelling would still add a place in round S * Q; proved never to happen */
   CABINET_PLACE = 9,       /* the state is not below S, or the goal state is not below Q */
   CABINET_ENTRY = 10,      /* the plan's entry has none of the four shapes */
   CABINET_OUTCOME = 11,    /* no record has this state, action and outcome */
@@ -125,7 +124,7 @@ typedef struct {
 } cabinet_checked;
 
 /* Plans the job into the buffer: entry s * Q + q, four bytes, says of state s with goal state q its value, its action (255: none) and
-   its number, low byte first. Bytes beyond the plan stay as they are. Gives 1 to 8, 12, 13. */
+   its number, low byte first. Bytes beyond the plan stay as they are, and a refusal changes nothing in the plan buffer. Gives 1 to 7, 12, 13. */
 cabinet_planned cabinet_plan(const uint8_t *job, size_t job_len, uint8_t *plan, size_t plan_len);
 
 /* The same answer and the same plan, byte for byte, by a second engine, which works backward from where the goal is met with an index of the

@@ -47,7 +47,7 @@ first-inside t r x m = member-held (holds-begin t r) x m .0
 module _ {b : List ℕ} {l : Layout} (t : Fit b l) {before plan1 plan2 counters1 counters2 : List ℕ} {first won : PlaceSet}
     (r : BegunAll b l before (first .words) plan1) (d : LayersDone b Phase.Winning (first .words) plan1 counters1 won plan2 counters2) where
   -- the winning places
-  pub won-of : WonOf b before (record { set = won; over = false }) plan2
+  pub won-of : WonOf b before (won .words) plan2
   won-of = d .settles _ _ _ (holds-begin t r)
 
   pub won-inside : (x : ℕ) → member (won .words) x ≡ true → x < places (said b)
@@ -55,8 +55,8 @@ module _ {b : List ℕ} {l : Layout} (t : Fit b l) {before plan1 plan2 counters1
 
   -- and the rest
   pub labelled-all : {plan3 counters3 counters4 : List ℕ} {all : PlaceSet}
-      → LayersDone b Phase.Pending (won .words) plan2 counters3 all plan3 counters4 → Labelled (said b) before false plan3
-  labelled-all e = labelled-both (t .keeps) won-of refl (e .settles _ _ _ (won-of .holds))
+      → LayersDone b Phase.Pending (won .words) plan2 counters3 all plan3 counters4 → Labelled (said b) before plan3
+  labelled-all e = labelled-both (t .keeps) won-of (e .settles _ _ _ (won-of .holds))
 
 -- the counters are 0 at the end
 pub cleared-all : {j : Job} {c d : ℕ → ℕ} {before one two three four : List ℕ} → Counted j c before one → Counted j d one two
@@ -81,13 +81,12 @@ plan-held : {b before after : List ℕ} {f : Fault} → calls.Planning b before 
     → (p : List ℕ) × Plan (said b) p × (after ≡ p ++ drop (room (said b)) before)
 plan-held (calls.refused n) z = absurd (n z)
 plan-held (calls.no-room e l) z = absurd (omega arith)
-plan-held (calls.overrun e l o) z = absurd (omega arith)
-plan-held (calls.planned {p = p} e l n q) z = (p, q, refl)
+plan-held (calls.planned {p = p} e l q) z = (p, q, refl)
 
 pub planned-by : {b before index counters after index′ counters′ : List ℕ} → Keeps b → room (said b) ≤ length before
     → index-size (said b) ≤ length index → counters-size (said b) ≤ length counters → Planned b before index counters after index′ counters′
     → ((y : ℕ) → getD after y 0 < 256) → PlanningBy b before index counters (only 0) after index′ counters′
 planned-by {b} {before} {index} {counters} {after} {index′} {counters′} k h i c d small =
-    let (p, q, e) = plan-held (planned-done k h (d .labelled) refl small) refl in
+    let (p, q, e) = plan-held (planned-done k h (d .labelled) small) refl in
     subst (λ (a : List ℕ). PlanningBy b before index counters (only 0) a index′ counters′) (sym e)
     (planned (kept b .1 k) h i c q (d .indexed) (d .cleared))

@@ -17,7 +17,7 @@ use Rattle.sets.proofs.Bits.{below-or}
 use Rattle.rules.proofs.Kept.{kept}
 use Rattle.rules.proofs.Numbers.{Among, told}
 use Rattle.rules.proofs.Plans.{plan-unique}
-use Rattle.rules.proofs.Unique.{no-overrun, planning-unique}
+use Rattle.rules.proofs.Unique.{planning-unique}
 use Rattle.backward.specs.Words.{Filled}
 use Rattle.backward.specs.Index.{index-size, Indexed}
 use Rattle.backward.specs.Counts.{counters-size}
@@ -76,21 +76,18 @@ pub is-planning : {b before index counters after i c : List ℕ} {f : Fault} →
 is-planning (refused n) z = calls.refused n
 is-planning (no-room e l) z = calls.no-room e l
 is-planning (no-memory e l s) z = absurd (z refl)
-is-planning {b} (planned e l h g p x f) z = calls.planned e l (no-overrun b (kept b .0 e)) p
+is-planning {b} (planned e l h g p x f) z = calls.planned e l p
 
--- what refuses a job's bytes is neither 8 nor 17
-of-bytes : {n : ℕ} → Among n → (n ≡ 8) ⊎ (n ≡ 17) → ⊥
-of-bytes (inl h) (inl e) = omega arith
-of-bytes (inl h) (inr e) = omega arith
-of-bytes (inr (inl h)) (inl e) = omega arith
-of-bytes (inr (inl h)) (inr e) = omega arith
-of-bytes (inr (inr h)) (inl e) = omega arith
-of-bytes (inr (inr h)) (inr e) = omega arith
+-- what refuses a job's bytes is not 17
+of-bytes : {n : ℕ} → Among n → n ≡ 17 → ⊥
+of-bytes (inl h) e = omega arith
+of-bytes (inr (inl h)) e = omega arith
+of-bytes (inr (inr h)) e = omega arith
 
 -- It says 17 where the job is good, the plan has room and the index or the counters are too short, and nowhere else.
 pub memory-short : {b before index counters p i c : List ℕ} {f : Fault} → PlanningBy b before index counters f p i c → f .number ≡ 17
     → (refusal b ≡ 0) × (room (said b) ≤ length before) × ((length index < index-size (said b)) ⊎ (length counters < counters-size (said b)))
-memory-short {b} (refused n) z = absurd (of-bytes (told b .among) (inr z))
+memory-short {b} (refused n) z = absurd (of-bytes (told b .among) z)
 memory-short (no-room e l) z = absurd (omega arith)
 memory-short (no-memory e l s) z = (e, l, s)
 memory-short (planned e l h g p x f) z = absurd (omega arith)
@@ -108,10 +105,3 @@ refusal-keeps (refused n) z = (refl, refl, refl)
 refusal-keeps (no-room e l) z = (refl, refl, refl)
 refusal-keeps (no-memory e l s) z = (refl, refl, refl)
 refusal-keeps (planned e l h g p x f) z = absurd (z refl)
-
--- No answer is 8.
-pub never-8 : {b before index counters p i c : List ℕ} {f : Fault} → PlanningBy b before index counters f p i c → f .number ≡ 8 → ⊥
-never-8 {b} (refused n) z = of-bytes (told b .among) (inl z)
-never-8 (no-room e l) z = omega arith
-never-8 (no-memory e l s) z = omega arith
-never-8 (planned e l h g p x f) z = omega arith

@@ -30,7 +30,7 @@ pub record LayersReady (b : List ℕ) (l : Layout) (index : List ℕ) (v : Phase
 -- what they leave: rounds of the phase have settled, and the counters are those of the places taken
 pub record LayersDone (b : List ℕ) (v : Phase) (known plan counters : List ℕ) (r : PlaceSet) (plan′ counters′ : List ℕ) : Type 0 where
   pub as-long : length plan′ ≡ length plan
-  pub settles : Settles (said b) v known plan (record { set = r; over = false }) plan′
+  pub settles : Settles (said b) v known plan (r .words) plan′
   pub taken : List ℕ
   pub counted : Counted (said b) (unsure v (said b) (in-set (said b .goals) taken)) counters counters′
 
@@ -43,6 +43,6 @@ pub record Ready (b : List ℕ) (l : Layout) (plan index counters : List ℕ) : 
 
 -- what it leaves: every entry right, every record listed, and the counters 0
 pub record Planned (b : List ℕ) (plan index counters plan′ index′ counters′ : List ℕ) : Type 0 where
-  pub labelled : Labelled (said b) plan false plan′
+  pub labelled : Labelled (said b) plan plan′
   pub indexed : Indexed (said b) index index′
   pub cleared : Filled (counters-size (said b)) 0 counters counters′

@@ -13,7 +13,7 @@ use Rattle.rules.specs.Fault.{Fault, only}
 use Rattle.rules.specs.Bytes.{refusal, said}
 use Rattle.rules.specs.Keeps.{Keeps}
 use Rattle.rules.specs.Plan.{room, blank, due, shaped}
-use Rattle.rules.specs.Calls.{Planning, refused, no-room, overrun, planned, is-place, advice-of, advised}
+use Rattle.rules.specs.Calls.{Planning, refused, no-room, planned, is-place, advice-of, advised}
 use Rattle.rules.specs.declared.place.Place.{Place}
 use Rattle.game.specs.declared.entry.Entry.{Entry}
 use Rattle.game.proofs.Search.{clash}

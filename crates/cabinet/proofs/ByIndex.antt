@@ -27,7 +27,7 @@ pub indexed-unique : {b before index counters p i c p′ i′ c′ : List ℕ} (
     → (r ≡ r′) × (p ≡ p′) × (i ≡ i′) × (c ≡ c′)
 indexed-unique r r′ x x′ = let (e, p, i, c) = by-unique x x′ in (figures-known r r′ e, p, i, c)
 
--- what planning gives, so never 8, and 17; 12 and 13 alone name a record
+-- what planning gives, and 17; 12 and 13 alone name a record
 abbrev pub OfIndexed : ℕ → Type 0
 OfIndexed n = OfPlanning n ⊎ (n ≡ 17)
 

@@ -13,14 +13,12 @@ use Rattle.rules.specs.Fault.{Fault, only}
 use Rattle.rules.specs.Bytes.{fault, refusal, said}
 use Rattle.rules.specs.Keeps.{Keeps}
 use Rattle.rules.specs.Plan.{entry, room, shaped}
-use Rattle.rules.specs.Calls.{Planning, refused, no-room, overrun, planned, refused-move, moved-by, moved-to, started, is-place, followed}
+use Rattle.rules.specs.Calls.{Planning, refused, no-room, planned, refused-move, moved-by, moved-to, started, is-place, followed}
 use Rattle.rules.specs.Calls.{refused-advice, advice-of, advised}
 use Rattle.rules.specs.Answers as answers
 use Rattle.game.specs.Demands.{ValueTold, WinningKept, PendingKept}
 use Rattle.rules.specs.declared.place.Place.{Place}
 use Rattle.rules.proofs.Numbers.{told}
-use Rattle.rules.proofs.Kept.{kept}
-use Rattle.rules.proofs.Unique.{no-overrun}
 use Rattle.rules.proofs.Planned.{entry-of, planned-exactly, planned-right}
 use Rattle.labelling.proofs.Demands.{values-told, followable, followed-on, followed-wins, followed-hopes}
 
@@ -30,13 +28,12 @@ use Rattle.labelling.proofs.Demands.{values-told, followable, followed-on, foll
 abbrev pub plan-fault : (b before : List ℕ) → Fault
 plan-fault b before = cond (not (eqb (refusal b) 0)) (fault b) (cond (ltb (length before) (room (said b))) (only 7) (only 0))
 
--- Planning answers that number, and leaves the buffer as it was where it is not 0. (8 never is: no job that keeps the rules runs over.)
+-- Planning answers that number, and a refusal changes nothing in the plan buffer: without exception, whatever the number.
 pub planning-refuses : {b before after : List ℕ} {f : Fault} → Planning b before f after
     → (f ≡ plan-fault b before) × ((f .number ≡ 0 → ⊥) → after ≡ before)
 planning-refuses {b} (refused n) = (rw (ne-eqb (refusal b) 0 n), λ z. refl)
 planning-refuses {b} {before} (no-room e l) = (rw (eq-eqb (refusal b) 0 e, lt-ltb (length before) (room (said b)) l), λ z. refl)
-planning-refuses {b} (overrun e l o) = absurd (no-overrun b (kept b .0 e) o)
-planning-refuses {b} {before} (planned e l n p) =
+planning-refuses {b} {before} (planned e l p) =
     (rw (eq-eqb (refusal b) 0 e, le-ltb (length before) (room (said b)) l), λ z. absurd (z refl))
 
 -- Every other figure of a refusal is 0, save that 12 and 13 name a record.
@@ -53,8 +50,7 @@ AdvisedClear f =
 pub planning-clear : {b before after : List ℕ} {f : Fault} → Planning b before f after → RecordClear f
 planning-clear {b} (refused n) = told b .no-record
 planning-clear (no-room e l) = λ x y. refl
-planning-clear (overrun e l o) = λ x y. refl
-planning-clear (planned e l n p) = λ x y. refl
+planning-clear (planned e l p) = λ x y. refl
 
 past-move : (t : Bool) (f : Fault) (y : answers.MovedFigures) → RecordClear f → MovedClear y → MovedClear (cond t (refused-move f) y)
 past-move true f y r h = λ z. (refl, refl, r)

@@ -12,14 +12,12 @@ use Rattle.rules.specs.Job.{place, places, entry-number, entered, start, record
 use Rattle.rules.specs.Fault.{Fault, only, with-record}
 use Rattle.rules.specs.Bytes.{fault, refusal, said}
 use Rattle.rules.specs.Plan.{entry, room, shaped}
-use Rattle.rules.specs.Calls.{Planning, refused, no-room, overrun, planned, refused-move, moved-by, moved-to, started, is-place, followed}
+use Rattle.rules.specs.Calls.{Planning, refused, no-room, planned, refused-move, moved-by, moved-to, started, is-place, followed}
 use Rattle.rules.specs.Calls.{refused-advice, advice-of, advised}
 use Rattle.rules.specs.Answers as answers
 use Rattle.rules.specs.Answers.{moved-fault, advised-fault}
 use Rattle.rules.specs.Examples.{plate}
-use Rattle.rules.proofs.Kept.{kept}
 use Rattle.rules.proofs.Numbers.{Among, Told, told}
-use Rattle.rules.proofs.Unique.{no-overrun}
 use Rattle.cabinet.specs.Figures.{figures-planned, figures-moved, figures-advised}
 use Rattle.cabinet.specs.declared.calls.PlannedFigures.{PlannedFigures}
 use Rattle.cabinet.specs.declared.calls.MovedFigures.{MovedFigures}
@@ -29,7 +27,7 @@ use Rattle.cabinet.specs.declared.calls.AdvisedFigures.{AdvisedFigures}
 abbrev pub OfJob : ℕ → Type 0
 OfJob = Among
 
--- planning: also 7, and 8 never; following: also 9 and 11; advice: also 7, 9 and 10
+-- planning: also 7; following: also 9 and 11; advice: also 7, 9 and 10
 abbrev pub OfPlanning : ℕ → Type 0
 OfPlanning n = OfJob n ⊎ (n ≡ 7)
 
@@ -56,8 +54,7 @@ plan-range r p = go p
     go : {b before after : List ℕ} {f : Fault} → Planning b before f after → Told OfPlanning f
     go {b} (refused n) = of-bytes b (λ n h. inl h)
     go (no-room e l) = alone 7 (inr refl)
-    go {b} (overrun e l o) = absurd (no-overrun b (kept b .0 e) o)
-    go (planned e l n p) = alone 0 (inl of-success)
+    go (planned e l p) = alone 0 (inl of-success)
 
 -- a test that refuses by f, and else the answer y
 past-move : (P : answers.MovedFigures → Type 0) (x : Bool) (f : Fault) (y : answers.MovedFigures) → P (refused-move f) → P y

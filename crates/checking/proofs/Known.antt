@@ -27,7 +27,6 @@ checked-back (Checked.Refused (Refusal.Field k)) = refl
 checked-back (Checked.Refused (Refusal.Order k)) = refl
 checked-back (Checked.Refused Refusal.Goal) = refl
 checked-back (Checked.Refused Refusal.Room) = refl
-checked-back (Checked.Refused Refusal.Rounds) = refl
 checked-back (Checked.Refused Refusal.Place) = refl
 checked-back (Checked.Refused Refusal.Entry) = refl
 checked-back (Checked.Refused Refusal.Outcome) = refl

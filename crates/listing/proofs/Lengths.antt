@@ -15,7 +15,7 @@ use Rattle.rules.specs.Job.{place, places, start, arena}
 use Rattle.rules.specs.Fault.{Fault, only}
 use Rattle.rules.specs.Bytes.{fault, refusal, said}
 use Rattle.rules.specs.Plan.{blank, due, shaped, planned-entry}
-use Rattle.rules.specs.Calls.{Planning, refused, no-room, overrun, planned}
+use Rattle.rules.specs.Calls.{Planning, refused, no-room, planned}
 use Rattle.game.specs.declared.entry.Entry.{Entry}
 use Rattle.rules.specs.declared.place.Place.{Place}
 use Rattle.game.proofs.Tests.{and-iff, or-iff, ltb-iff, leb-iff, eqb-iff}
@@ -118,8 +118,7 @@ module _ {b before after : List ℕ} (done : Planning b before (only 0) after) w
 refusal-few : {b before after : List ℕ} {f : Fault} → Planning b before f after → (f .number < 100) × (f .«record» < 10000)
 refusal-few {b} (refused n) = fault-few b (told b .among)
 refusal-few (no-room e l) = (omega arith, omega arith)
-refusal-few (overrun e l o) = (omega arith, omega arith)
-refusal-few (planned e l n p) = (omega arith, omega arith)
+refusal-few (planned e l p) = (omega arith, omega arith)
 
 pub prints-short : {b before text : List ℕ} → Prints b before text → length text ≤ 393237
 prints-short (refuses {f} p z) = let (n, k) = refusal-few p in omega (arith, short-refusal f n k)

@@ -10,9 +10,9 @@ use Rattle.rules.specs.Keeps.{Keeps}
 use Rattle.rules.specs.Job.{place, entry-number}
 use Rattle.rules.specs.Plan.{entry, room}
 use Rattle.rules.specs.Retold.{retold}
-use Rattle.rules.specs.Calls.{Planning, refused, no-room, overrun, planned}
+use Rattle.rules.specs.Calls.{Planning, refused, no-room, planned}
 use Rattle.rules.proofs.Kept.{kept, places-few}
-use Rattle.rules.proofs.Unique.{planning-unique, no-overrun}
+use Rattle.rules.proofs.Unique.{planning-unique}
 use Rattle.rules.proofs.Retelling.{retold-same, retold-keeps}
 use Rattle.rules.proofs.Same.{same-start, same-planning}
 use Rattle.text.specs.Lines.{entry-line, start-line, refusal-line}
@@ -35,16 +35,14 @@ pub prints-plan : {b before text : List ℕ} → Keeps b → 65536 ≤ length be
     → (after : List ℕ) × Planning b before (only 0) after × (text ≡ listing (said b) after)
 prints-plan {b} k h (refuses (refused n) z) = absurd (n (kept b .1 k))
 prints-plan k h (refuses (no-room e l) z) = absurd (omega (arith, has-room k))
-prints-plan {b} k h (refuses (overrun e l o) z) = absurd (no-overrun b k o)
-prints-plan k h (refuses (planned e l n p) z) = absurd (z refl)
+prints-plan k h (refuses (planned e l p) z) = absurd (z refl)
 prints-plan k h (lists {after} d) = (after, d, refl)
 
 -- and of any other the line of the first number that applies, with its record, is printed alone.
 pub prints-refusal : {b before text : List ℕ} → (refusal b ≡ 0 → ⊥) → Prints b before text → text ≡ refusal-line (fault b)
 prints-refusal n (refuses (refused m) z) = refl
 prints-refusal n (refuses (no-room e l) z) = absurd (n e)
-prints-refusal n (refuses (overrun e l o) z) = absurd (n e)
-prints-refusal n (refuses (planned e l o p) z) = absurd (n e)
+prints-refusal n (refuses (planned e l p) z) = absurd (n e)
 prints-refusal {b} n (lists d) = absurd (n (kept b .1 (keeps d)))
 
 -- ---- Of a job rewritten in the tall form the same text is printed.

@@ -19,7 +19,7 @@ use Rattle.rules.specs.Plan.{entry, entry-byte, room, Wrote}
 use Rattle.rules.specs.declared.place.Place.{Place}
 use Rattle.game.specs.declared.entry.Entry.{Entry}
 use Rattle.rules.proofs.Arenas.{inside-iff, arena-lawful}
-use Rattle.sets.proofs.Sizes.{count-sub, count-same, count-more}
+use Rattle.sets.proofs.Sizes.{count-same}
 use Rattle.game.proofs.Search.{lowest}
 use Rattle.sets.proofs.Bits.{below-or, same-or}
 use Rattle.rules.proofs.Entries.{read-back}
@@ -236,22 +236,10 @@ module _ {j : Job} {f g : Place → Bool} {e e′ : Place → Entry} {before bef
       let same : member ws i ≡ member ws′ i = count-same (member ws) (member ws′) still room (omega arith) i (omega arith) in
       sym (holds-in-set h p m) ∙ same ∙ holds-in-set h′ p m ∙ r
 
-  pub held-more : (room : ℕ) → 0 < j .goals → (count (member ws′) room ≡ count (member ws) room → ⊥)
-      → (p : Place) × Inside (arena j) p × (f p ≡ false) × (g p ≡ true)
-  held-more room some c =
-      let fewer = count-sub (member ws) (member ws′) still room in
-      let (x, b, old, new) = count-more (member ws) (member ws′) still room (omega arith) in
-      let (l, r) = member-held h′ x new in
-      (place-at (j .goals) x, place-inside j some x l, sym (holds-member h x l) ∙ old, r)
-
 module _ {j : Job} (v : Phase) (f : Place → Bool) (k : ℕ) {e e′ : Place → Entry} {before before′ ws plan ws′ plan′ : List ℕ}
     (h : Holds j (reached v (arena j) f k) e before ws plan) (h′ : Holds j (reached v (arena j) f (suc k)) e′ before′ ws′ plan′)
   where
-    -- a round after which the set has the size that it had added nothing; otherwise it added a place
+    -- a round after which the set has the size that it had added nothing
     pub same-size : (room : ℕ) → places j ≤ room → count (member ws′) room ≡ count (member ws) room → (p : Place) → Inside (arena j) p
         → reached v (arena j) f (suc k) p ≡ true → reached v (arena j) f k p ≡ true
     same-size = held-same (reached-up v (arena j) f k) h h′
-
-    pub grew : (room : ℕ) → 0 < j .goals → (count (member ws′) room ≡ count (member ws) room → ⊥)
-        → (p : Place) × Inside (arena j) p × (reached v (arena j) f k p ≡ false) × (reached v (arena j) f (suc k) p ≡ true)
-    grew = held-more (reached-up v (arena j) f k) h h′

@@ -1,17 +1,18 @@
--- The laws of a pass: over no place, over one place, and one pass after another.
+-- The laws of a pass: over no place, over one place, and one pass after another; and the size of its set.
 use Prim.Native.Nat.{ℕ, _+_, _/_, _%_, _≤_, _<_}
-use mathlib.Core.Bool.{Bool, true, false, cond, _&&_, or-false, and-true, and-false, _||_}
+use mathlib.Core.Bool.{Bool, true, false, cond, _&&_, or-false, and-true, and-false, _||_, or-true}
 use mathlib.Core.List.{List}
 use mathlib.Core.Logic.{⊎-elim}
 use mathlib.Core.Path.{_≡_, refl, sym, _∙_}
 use native.Mathlib.Omega.{arith}
 use borrow.Author.Tests.{lt-ltb, le-ltb, le-leb, lt-leb, eq-eqb, ne-eqb}
-use lib.Dec.{ltb, eqb}
+use lib.Dec.{leb, ltb, eqb}
 use lib.ListN.{getD}
-use Rattle.sets.specs.Sets.{set-room, member, Put}
+use Rattle.sets.specs.Sets.{set-room, member, count, Put}
 use Rattle.rules.specs.Plan.{entry-byte, Wrote}
 use Rattle.game.specs.declared.entry.Entry.{Entry}
 use Rattle.sets.proofs.Bits.{below-or, same-or}
+use Rattle.sets.proofs.Sizes.{count-sub}
 use Rattle.phases.specs.Pass.{between, Pass}
 
 -- ---- the numbers of a window
@@ -141,3 +142,15 @@ module _ {gains writes : ℕ → Bool} {says : ℕ → Entry} where
           joins = λ x. rw (at-one gains false i g x);
           bytes = one-wrote writes says w q;
         }
+
+-- ---- the set after a pass
+
+module _ {gains writes : ℕ → Bool} {says : ℕ → Entry} {lo hi : ℕ} {ws plan ws′ plan′ : List ℕ}
+    (a : Pass gains writes says lo hi ws plan ws′ plan′) where
+  -- no place leaves the set, so that it is no smaller
+  pub pass-grows : (room : ℕ) → count (member ws) room ≤ count (member ws′) room
+  pass-grows = count-sub (member ws) (member ws′) (λ x m. a .joins x ∙ rw m (or-true (between lo hi x && gains x)))
+
+  -- from hi on none joins it
+  pub pass-past : (x : ℕ) → hi ≤ x → member ws′ x ≡ member ws x
+  pass-past x h = a .joins x ∙ rw (le-ltb x hi h, and-false (leb lo x))

@@ -1,33 +1,32 @@
 -- The rounds of a phase as a loop makes them, until one adds nothing; both phases; and the plan that they leave.
-use Prim.Native.Nat.{ℕ, zero, suc, _+_, _*_, _≤_, _<_}
-use mathlib.Core.Bool.{Bool, true, false, true≢false, false≢true, _||_}
+use Prim.Native.Nat.{ℕ, suc, _+_, _*_, _≤_, _<_}
+use mathlib.Core.Bool.{Bool, true, false, _||_}
 use mathlib.Core.List.{List}
-use mathlib.Core.Logic.{inl, inr, ⊎-elim}
-use mathlib.Core.Path.{_≡_, refl, sym, _∙_, subst}
+use mathlib.Core.Path.{_≡_, refl, sym, _∙_}
 use native.Mathlib.Numerals.{add-one}
 use native.Mathlib.Omega.{arith}
 use Rattle.sets.specs.Sets.{member, count}
-use Rattle.game.specs.Game.{Arena, Inside, Lawful, Pending, WinsIn, HopesIn}
+use Rattle.game.specs.Game.{Arena, Inside, Lawful}
 use Rattle.game.specs.Below.{some-below}
 use Rattle.rules.specs.Job.{Job, place, places, arena}
 use Rattle.rules.specs.Bytes.{said}
 use Rattle.rules.specs.Keeps.{Keeps}
 use Rattle.rules.specs.declared.place.Place.{Place}
-use Rattle.sets.specs.declared.places.PlaceSet.{PlaceSet}
 use Rattle.game.specs.declared.entry.Entry.{Entry}
-use Rattle.game.proofs.Tests.{same-test, last-or-below, some-below-ext}
-use Rattle.rules.proofs.Kept.{places-some}
+use Rattle.game.proofs.Tests.{same-test, some-below-ext}
 use Rattle.rules.proofs.Arenas.{inside-iff, arena-lawful}
+use Rattle.rules.proofs.Unique.{none-reaches}
 use Rattle.job.specs.Layout.{Fit}
 use Rattle.job.specs.declared.layout.Layout.{Layout}
+use Rattle.job.proofs.Asking.{places-said}
 use Rattle.phases.specs.declared.phase.Phase.{Phase}
-use Rattle.phases.specs.declared.phase.Rounds.{Rounds}
 use Rattle.phases.specs.Wanted.{wanted}
 use Rattle.phases.specs.Round.{Passed}
-use Rattle.phases.specs.Rounds.{reached, written, Holds, Settled, Labelled}
+use Rattle.phases.specs.Rounds.{reached, written, Holds, NonePast, Settled, Labelled}
+use Rattle.phases.proofs.Passes.{pass-grows, pass-past}
 use Rattle.phases.proofs.Agree.{wanted-ext, reached-up}
-use Rattle.phases.proofs.Steps.{wins-by, first-says, wins-says, all-right, hope-number, win-number}
-use Rattle.phases.proofs.Holding.{holds-round, holds-entry, holds-rest, holds-zero, same-size, grew}
+use Rattle.phases.proofs.Steps.{wins-by, first-says, wins-says, hopes-by, all-right, hope-number, win-number}
+use Rattle.phases.proofs.Holding.{holds-round, holds-entry, holds-rest, holds-zero, same-size}
 
 absorb : (a x y : Bool) → y ≡ x → ((a || x) || y) ≡ true → (a || x) ≡ true
 absorb true x y q e = refl
@@ -49,19 +48,13 @@ last-next G L v f k h p i e =
 
 -- ---- one phase
 
--- round k + 1 adds a place
-abbrev Added : (j : Job) → Phase → (Place → Bool) → ℕ → Type 0
-Added j v f k = (p : Place) × Inside (arena j) p × (reached v (arena j) f k p ≡ false) × (reached v (arena j) f (suc k) p ≡ true)
-
--- after k rounds of the loop: whatever the words and the plan held at its start, they hold it with k rounds made, and each round added a
--- place
+-- after k rounds of the loop: whatever the words and the plan held at its start, they hold it with k rounds made
 pub record Going (j : Job) (v : Phase) (ws₀ plan₀ : List ℕ) (k : ℕ) (ws plan : List ℕ) : Type 0 where
   pub holds : (f : Place → Bool) (e : Place → Entry) (before : List ℕ) → Holds j f e before ws₀ plan₀
       → Holds j (reached v (arena j) f k) (written v (arena j) f e k) before ws plan
-  pub added : (f : Place → Bool) (e : Place → Entry) (before : List ℕ) → Holds j f e before ws₀ plan₀ → (i : ℕ) → i < k → Added j v f i
 
 pub going-none : (j : Job) (v : Phase) (ws plan : List ℕ) → Going j v ws plan 0 ws plan
-going-none j v ws plan = record { holds = λ f e before h. holds-zero h v; added = λ f e before h i l. absurd (omega arith) }
+going-none j v ws plan = record { holds = λ f e before h. holds-zero h v }
 
 module _ {b : List ℕ} {l : Layout} (t : Fit b l) {v : Phase} {ws₀ plan₀ ws plan ws′ plan′ : List ℕ} {k : ℕ}
     (g : Going (said b) v ws₀ plan₀ k ws plan) (r : Passed b l v (k + 1) ws 0 (l .states * l .goals) ws plan ws′ plan′) where
@@ -69,93 +62,59 @@ module _ {b : List ℕ} {l : Layout} (t : Fit b l) {v : Phase} {ws₀ plan₀ ws
       → Holds (said b) (reached v (arena (said b)) f (suc k)) (written v (arena (said b)) f e (suc k)) before ws′ plan′
   next f e before h = holds-round t v f e k (g .holds f e before h) (rw (add-one k) at r)
 
-  pub going-more : (room : ℕ) → (count (member ws′) room ≡ count (member ws) room → ⊥) → Going (said b) v ws₀ plan₀ (k + 1) ws′ plan′
-  going-more room c =
-      rw (add-one k)
-      (record {
-        holds = next;
-        added = more;
-      })
-    where
-      more : (f : Place → Bool) (e : Place → Entry) (before : List ℕ) → Holds (said b) f e before ws₀ plan₀ → (i : ℕ) → i < suc k
-          → Added (said b) v f i
-      more f e before h i m =
-          ⊎-elim
-          (λ (q : i ≡ k). rw q (grew v f k (g .holds f e before h) (next f e before h) room (t .keeps .some-goals) c))
-          (λ (d : i < k). g .added f e before h i d)
-          (last-or-below m)
+  pub going-more : Going (said b) v ws₀ plan₀ (k + 1) ws′ plan′
+  going-more = rw (add-one k) (record { holds = next })
 
-  pub going-stop : (room : ℕ) (set : PlaceSet) → set .words ≡ ws′ → l .states * l .goals ≤ room → count (member ws′) room ≡ count (member ws) room
+  -- a round takes no place out of the set, and adds the job's places only
+  pub going-grows : (room : ℕ) → count (member ws) room ≤ count (member ws′) room
+  going-grows = pass-grows r
+
+  pub going-past : NonePast (said b) ws → NonePast (said b) ws′
+  going-past none x h = pass-past r x (omega (arith, places-said t, h)) ∙ none x h
+
+  pub going-stop : (room : ℕ) → l .states * l .goals ≤ room → count (member ws′) room ≡ count (member ws) room
       → (f : Place → Bool) (e : Place → Entry) (before : List ℕ) → Holds (said b) f e before ws₀ plan₀
-      → Settled (said b) v f e before (record { set = set; over = false }) plan′
-  going-stop room set q few c f e before h =
+      → Settled (said b) v f e before ws′ plan′
+  going-stop room few c f e before h =
       record {
         rounds = suc k;
-        holds = rw q (next f e before h);
+        holds = next f e before h;
         last =
-            λ z. last-next (arena (said b)) (arena-lawful b (t .keeps)) v f k
+            last-next (arena (said b)) (arena-lawful b (t .keeps)) v f k
             (same-size v f k (g .holds f e before h) (next f e before h) room (rw (t .is-layout) at few) c);
-        more = λ z. absurd (false≢true z);
       }
-
-at-last : {A : ℕ → Type 0} {n : ℕ} (k : ℕ) → k ≡ n → 1 ≤ n → ((i : ℕ) → i < k → A i) → (i : ℕ) × (suc i ≡ n) × A i
-at-last zero q some each = absurd (omega arith)
-at-last (suc k) q some each = (k, q, each k (omega arith))
-
-pub going-over : {b : List ℕ} {l : Layout} (t : Fit b l) {v : Phase} {ws₀ plan₀ ws plan : List ℕ} {k : ℕ}
-    → Going (said b) v ws₀ plan₀ k ws plan → k ≡ places (said b) → (set : PlaceSet) → set .words ≡ ws
-    → (f : Place → Bool) (e : Place → Entry) (before : List ℕ) → Holds (said b) f e before ws₀ plan₀
-    → Settled (said b) v f e before (record { set = set; over = true }) plan
-going-over {b} t {k} g q set w f e before h =
-    record {
-      rounds = k;
-      holds = rw w (g .holds f e before h);
-      last = λ z. absurd (true≢false z);
-      more = λ z. at-last k q (places-some (t .keeps)) (g .added f e before h);
-    }
 
 -- ---- both phases
 
 -- what the rounds of winning leave, from round 0 on
-abbrev pub WonOf : (b before : List ℕ) → Rounds → List ℕ → Type 0
-WonOf b before r plan = Settled (said b) Phase.Winning (arena (said b) .accepted) (first-says (arena (said b))) before r plan
+abbrev pub WonOf : (b before ws plan : List ℕ) → Type 0
+WonOf b before ws plan = Settled (said b) Phase.Winning (arena (said b) .accepted) (first-says (arena (said b))) before ws plan
 
 -- what the rounds of hope leave after n rounds of winning
-abbrev pub HopedOf : (b before : List ℕ) → ℕ → Rounds → List ℕ → Type 0
-HopedOf b before n r plan = Settled (said b) Phase.Pending (wins-by (arena (said b)) n) (wins-says (arena (said b)) n) before r plan
+abbrev pub HopedOf : (b before : List ℕ) → ℕ → (ws plan : List ℕ) → Type 0
+HopedOf b before n ws plan = Settled (said b) Phase.Pending (wins-by (arena (said b)) n) (wins-says (arena (said b)) n) before ws plan
 
--- a round of winning numbered S·Q adds a place
-pub labelled-over : {b before plan : List ℕ} {won : Rounds} → Keeps b → WonOf b before won plan → won .over ≡ true
-    → Labelled (said b) before true plan
-labelled-over {b} k w o =
-    record {
-      as-long = w .holds .as-long;
-      right = λ z. absurd (true≢false z);
-      rest = holds-rest (w .holds);
-      overrun =
-          λ z.
-          let (i, n, (p, m, old, new)) = w .more o in
-          (p, m, inl (subst (WinsIn (arena (said b)) p) n (win-number (arena (said b)) (arena-lawful b k) i p old new)));
-    }
-
--- no round of winning is over, and then every entry is right unless a round of hope numbered S·Q adds a place
-pub labelled-both : {b before plan plan′ : List ℕ} {won all : Rounds} → Keeps b → (w : WonOf b before won plan) → won .over ≡ false
-    → HopedOf b before (w .rounds) all plan′ → Labelled (said b) before (all .over) plan′
-labelled-both {b} k w o h =
+-- then every entry is right
+pub labelled-both : {b before ws plan ws′ plan′ : List ℕ} → Keeps b → (w : WonOf b before ws plan)
+    → HopedOf b before (w .rounds) ws′ plan′ → Labelled (said b) before plan′
+labelled-both {b} k w h =
     record {
       as-long = h .holds .as-long;
       right =
-          λ z s q ls lq.
+          λ s q ls lq.
           rw (holds-entry (h .holds) s q ls lq)
-          (all-right (arena (said b)) L (w .rounds) (w .last o) (h .rounds) (h .last z) (place s q)
+          (all-right (arena (said b)) (arena-lawful b k) (w .rounds) (w .last) (h .rounds) (h .last) (place s q)
           (inside-iff (said b) (place s q) .1 (ls, lq)));
       rest = holds-rest (h .holds);
-      overrun =
-          λ z.
-          let (i, n, (p, m, old, new)) = h .more z in
-          let (hope, number) = hope-number (arena (said b)) L (w .rounds) (w .last o) i p m old new in
-          (p, m, inr (hope, subst (HopesIn (arena (said b)) p) n number));
     }
-  where
-    L : Lawful (arena (said b))
-    L = arena-lawful b k
+
+-- ---- round S·Q
+
+-- Round S·Q can never add a place: a round that adds one, of winning or of hope after winning has settled, has a number below S·Q.
+pub no-round : {b before ws plan : List ℕ} → Keeps b → (w : WonOf b before ws plan) → (k : ℕ) (p : Place) → Inside (arena (said b)) p
+    → (wins-by (arena (said b)) k p ≡ false → wins-by (arena (said b)) (suc k) p ≡ true → suc k < places (said b))
+    × (hopes-by (arena (said b)) (w .rounds) k p ≡ false → hopes-by (arena (said b)) (w .rounds) (suc k) p ≡ true → suc k < places (said b))
+no-round {b} keeps w k p i = (
+  λ old new. none-reaches keeps p i (suc k) .0 (win-number (arena (said b)) (arena-lawful b keeps) k p old new),
+  λ old new. none-reaches keeps p i (suc k) .1 (hope-number (arena (said b)) (arena-lawful b keeps) (w .rounds) (w .last) k p i old new .1),
+)

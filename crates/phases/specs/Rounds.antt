@@ -10,12 +10,10 @@ use Rattle.game.specs.Game.{Arena, Inside, Right, says}
 use Rattle.game.specs.Below.{some-below}
 use Rattle.rules.specs.Job.{Job, place, places, entry-number, arena}
 use Rattle.rules.specs.Plan.{entry, entry-byte, room}
-use Rattle.rules.specs.Calls.{Overrun}
 use Rattle.rules.specs.declared.place.Place.{Place}
 use Rattle.game.specs.declared.entry.Entry.{Entry}
 use Rattle.game.proofs.Search.{lowest}
 use Rattle.phases.specs.declared.phase.Phase.{Phase}
-use Rattle.phases.specs.declared.phase.Rounds.{Rounds}
 use Rattle.phases.specs.Wanted.{wanted, phase-value}
 use Rattle.phases.specs.Pass.{place-at}
 
@@ -42,15 +40,11 @@ pub record Holds (j : Job) (f : Place → Bool) (e : Place → Entry) (before ws
   pub bytes : (y : ℕ) → getD plan y 0
       ≡ cond (ltb (y / 4) (places j)) (entry-byte (e (place-at (j .goals) (y / 4))) (y % 4)) (getD before y 0)
 
--- What the rounds of a phase leave, from f and e on: the last adds nothing; or, over, round S·Q adds a place.
-pub record Settled (j : Job) (v : Phase) (f : Place → Bool) (e : Place → Entry) (before : List ℕ) (r : Rounds)
-    (plan : List ℕ) : Type 0 where
+-- What the rounds of a phase leave, from f and e on: one more would add nothing.
+pub record Settled (j : Job) (v : Phase) (f : Place → Bool) (e : Place → Entry) (before ws plan : List ℕ) : Type 0 where
   pub rounds : ℕ
-  pub holds : Holds j (reached v (arena j) f rounds) (written v (arena j) f e rounds) before (r .set .words) plan
-  pub last : r .over ≡ false → (p : Place) → Inside (arena j) p
-      → reached v (arena j) f (suc rounds) p ≡ true → reached v (arena j) f rounds p ≡ true
-  pub more : r .over ≡ true → (k : ℕ) × (suc k ≡ places j)
-      × ((p : Place) × Inside (arena j) p × (reached v (arena j) f k p ≡ false) × (reached v (arena j) f (suc k) p ≡ true))
+  pub holds : Holds j (reached v (arena j) f rounds) (written v (arena j) f e rounds) before ws plan
+  pub last : (p : Place) → Inside (arena j) p → reached v (arena j) f (suc rounds) p ≡ true → reached v (arena j) f rounds p ≡ true
 
 -- a set has no place from S·Q on
 abbrev pub NonePast : Job → List ℕ → Type 0
@@ -58,14 +52,13 @@ NonePast j ws = (x : ℕ) → places j ≤ x → member ws x ≡ false
 
 -- Whatever the words and the plan held before the rounds of a phase, those leave it settled. They always hold something: `holds-itself` of
 -- proofs/Holding.antt.
-abbrev pub Settles : Job → Phase → (ws plan : List ℕ) → Rounds → (plan′ : List ℕ) → Type 0
-Settles j v ws plan r plan′ =
-    (f : Place → Bool) (e : Place → Entry) (before : List ℕ) → Holds j f e before ws plan → Settled j v f e before r plan′
+abbrev pub Settles : Job → Phase → (ws plan ws′ plan′ : List ℕ) → Type 0
+Settles j v ws plan ws′ plan′ =
+    (f : Place → Bool) (e : Place → Entry) (before : List ℕ) → Holds j f e before ws plan → Settled j v f e before ws′ plan′
 
--- What labelling leaves: each entry is right and the rest as before; or, over, some place has the number S·Q.
-pub record Labelled (j : Job) (before : List ℕ) (over : Bool) (plan : List ℕ) : Type 0 where
+-- What labelling leaves: each entry is right and the rest as before.
+pub record Labelled (j : Job) (before plan : List ℕ) : Type 0 where
   pub as-long : length plan ≡ length before
-  pub right : over ≡ false → (s q : ℕ) → s < j .states → q < j .goals
+  pub right : (s q : ℕ) → s < j .states → q < j .goals
       → Right (arena j) (place s q) (entry plan (entry-number (j .goals) (place s q)))
   pub rest : (y : ℕ) → room j ≤ y → getD plan y 0 ≡ getD before y 0
-  pub overrun : over ≡ true → Overrun j

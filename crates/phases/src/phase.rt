@@ -1,7 +1,6 @@
-// The two phases of an engine, and what one of them leaves.
+// The two phases of an engine.
 ghost use mathlib.Core.Path.{_≡_};
 ghost use Rattle.phases.specs.Wanted.{phase-value};
-use sets::places::PlaceSet;
 
 // What a phase labels.
 pub enum Phase {
@@ -17,10 +16,4 @@ pub fn value_of(phase: Phase) -> u8
         Phase::Winning => rules::answer::Value::Winning.number(),
         Phase::Pending => rules::answer::Value::Pending.number(),
     }
-}
-
-// What the rounds of a phase leave: the set, and whether a round numbered S·Q still added a place.
-pub struct Rounds {
-    pub set: PlaceSet,
-    pub over: bool,
 }

@@ -24,7 +24,6 @@ use Rattle.rules.proofs.Kept.{kept, places-few}
 use Rattle.rules.proofs.Arenas.{inside-iff, size-of, arena-lawful}
 use Rattle.rules.proofs.Rows.{row-of}
 use Rattle.rules.proofs.Entries.{read-back}
-use Rattle.rules.proofs.Unique.{no-overrun}
 use Rattle.rules.proofs.Planned.{planned-exactly, planned-plainly}
 
 -- ---- the list of f 0, f 1, .., of length n
@@ -131,7 +130,7 @@ planning-exists b before = go (eqb (refusal b) 0) refl (ltb (length before) (roo
         let z = eqb-true (refusal b) 0 e in
         let k = kept b .0 z in
         let (p, plan) = plan-exists k in
-        (only 0, p ++ drop (room (said b)) before, planned z (ltb-false (length before) (room (said b)) l) (no-overrun b k) plan)
+        (only 0, p ++ drop (room (said b)) before, planned z (ltb-false (length before) (room (said b)) l) plan)
 
 -- and 0 where the job keeps the rules and the plan has room
 pub planned-with-room : (b before : List ℕ) → Keeps b → room (said b) ≤ length before → (after : List ℕ) × Planning b before (only 0) after

@@ -16,7 +16,7 @@ use Rattle.rules.specs.declared.answer.Advised.{Advised}
 pub known-by : {A B : Type 0} (f : A → B) (g : B → A) → ((x : A) → g (f x) ≡ x) → (x y : A) → f x ≡ f y → x ≡ y
 known-by f g back x y e = sym (back x) ∙ ap g e ∙ back y
 
--- the refusal of a number with record k
+-- the refusal of a number with record k; a number that no refusal has is given any
 abbrev pub refusal-of : ℕ → ℕ → Refusal
 refusal-of zero k = Refusal.Short
 refusal-of (suc zero) k = Refusal.Short
@@ -26,7 +26,7 @@ refusal-of (suc (suc (suc (suc zero)))) k = Refusal.Labels
 refusal-of (suc (suc (suc (suc (suc zero))))) k = Refusal.Moves
 refusal-of (suc (suc (suc (suc (suc (suc zero)))))) k = Refusal.Goal
 refusal-of (suc (suc (suc (suc (suc (suc (suc zero))))))) k = Refusal.Room
-refusal-of (suc (suc (suc (suc (suc (suc (suc (suc zero)))))))) k = Refusal.Rounds
+refusal-of (suc (suc (suc (suc (suc (suc (suc (suc zero)))))))) k = Refusal.Room
 refusal-of (suc (suc (suc (suc (suc (suc (suc (suc (suc zero))))))))) k = Refusal.Place
 refusal-of (suc (suc (suc (suc (suc (suc (suc (suc (suc (suc zero)))))))))) k = Refusal.Entry
 refusal-of (suc (suc (suc (suc (suc (suc (suc (suc (suc (suc (suc zero))))))))))) k = Refusal.Outcome
@@ -50,7 +50,6 @@ refusal-back Refusal.Labels = refl
 refusal-back Refusal.Moves = refl
 refusal-back Refusal.Goal = refl
 refusal-back Refusal.Room = refl
-refusal-back Refusal.Rounds = refl
 refusal-back Refusal.Place = refl
 refusal-back Refusal.Entry = refl
 refusal-back Refusal.Outcome = refl
@@ -68,7 +67,6 @@ refusal-some Refusal.Labels = (3, refl)
 refusal-some Refusal.Moves = (4, refl)
 refusal-some Refusal.Goal = (5, refl)
 refusal-some Refusal.Room = (6, refl)
-refusal-some Refusal.Rounds = (7, refl)
 refusal-some Refusal.Place = (8, refl)
 refusal-some Refusal.Entry = (9, refl)
 refusal-some Refusal.Outcome = (10, refl)
@@ -123,7 +121,6 @@ record-none Refusal.Labels f o = refl
 record-none Refusal.Moves f o = refl
 record-none Refusal.Goal f o = refl
 record-none Refusal.Room f o = refl
-record-none Refusal.Rounds f o = refl
 record-none Refusal.Place f o = refl
 record-none Refusal.Entry f o = refl
 record-none Refusal.Outcome f o = refl

@@ -12,12 +12,11 @@ use Rattle.rules.specs.Fault.{Fault, only}
 use Rattle.rules.specs.Bytes.{said}
 use Rattle.rules.specs.Keeps.{Keeps}
 use Rattle.rules.specs.Plan.{entry, room, planned-entry}
-use Rattle.rules.specs.Calls.{Planning, refused, no-room, overrun, planned}
+use Rattle.rules.specs.Calls.{Planning, refused, no-room, planned}
 use Rattle.rules.specs.declared.place.Place.{Place}
 use Rattle.game.specs.declared.entry.Entry.{Entry}
 use Rattle.rules.proofs.Kept.{kept}
 use Rattle.rules.proofs.Arenas.{inside-iff}
-use Rattle.rules.proofs.Unique.{no-overrun}
 
 -- what a buffer says of a place of the job that b says
 abbrev pub entry-of : (b after : List ℕ) → Place → Entry
@@ -28,22 +27,19 @@ pub planned-exactly : {b before after : List ℕ} {f : Fault} → Planning b bef
     → (f .number ≡ 0) ↔ (Keeps b × (room (said b) ≤ length before))
 planned-exactly {b} (refused n) = (λ e. absurd (n e), λ t. absurd (n (kept b .1 (t .0))))
 planned-exactly {b} (no-room e l) = (λ z. absurd (omega arith), λ t. absurd (omega (arith, t .1)))
-planned-exactly {b} (overrun e l o) = (λ z. absurd (omega arith), λ t. absurd (no-overrun b (t .0) o))
-planned-exactly {b} (planned e l n p) = (λ z. (kept b .0 e, l), λ t. refl)
+planned-exactly {b} (planned e l p) = (λ z. (kept b .0 e, l), λ t. refl)
 
 -- the answer is then 0 with no record
 pub planned-plainly : {b before after : List ℕ} {f : Fault} → Planning b before f after → f .number ≡ 0 → f ≡ only 0
 planned-plainly (refused n) z = absurd (n z)
 planned-plainly (no-room e l) z = absurd (omega arith)
-planned-plainly (overrun e l o) z = absurd (omega arith)
-planned-plainly (planned e l n p) z = refl
+planned-plainly (planned e l p) z = refl
 
 -- and the plan is all there
 pub planned-long : {b before after : List ℕ} {f : Fault} → Planning b before f after → f .number ≡ 0 → room (said b) ≤ length after
 planned-long (refused n) z = absurd (n z)
 planned-long (no-room e l) z = absurd (omega arith)
-planned-long (overrun e l o) z = absurd (omega arith)
-planned-long {b} {before} (planned {p} e l n plan) z = omega (arith, plan .long, length-append p (drop (room (said b)) before))
+planned-long {b} {before} (planned {p} e l plan) z = omega (arith, plan .long, length-append p (drop (room (said b)) before))
 
 -- the entry of a place in a plan with more bytes behind it
 front-entry : (p q : List ℕ) (i : ℕ) → 4 * i + 4 ≤ length p → entry (p ++ q) i ≡ entry p i
@@ -60,8 +56,7 @@ pub planned-right : {b before after : List ℕ} {f : Fault} → Planning b befor
     → Right (arena (said b)) p (entry-of b after p)
 planned-right (refused n) z p i = absurd (n z)
 planned-right (no-room e l) z p i = absurd (omega arith)
-planned-right (overrun e l o) z p i = absurd (omega arith)
-planned-right {b} {before} (planned {p = bytes} e l n plan) z p i =
+planned-right {b} {before} (planned {p = bytes} e l plan) z p i =
     let (hs, hq) = inside-iff (said b) p .0 i in
     let below : entry-number (said b .goals) p < places (said b) = digits-lt hs hq in
     let long = plan .long in

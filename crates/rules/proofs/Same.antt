@@ -14,7 +14,7 @@ use Rattle.rules.specs.Fault.{Fault, only}
 use Rattle.rules.specs.Bytes.{said}
 use Rattle.rules.specs.Keeps.{Keeps}
 use Rattle.rules.specs.Plan.{entry, room, Plan, planned-entry, shaped}
-use Rattle.rules.specs.Calls.{Planning, refused, no-room, overrun, planned, started, followed, advised, is-place}
+use Rattle.rules.specs.Calls.{Planning, refused, no-room, planned, started, followed, advised, is-place}
 use Rattle.rules.specs.Calls.{refused-move, refused-advice, moved-to, moved-by, advice-of}
 use Rattle.rules.specs.Retold.{SameJob, retold}
 use Rattle.rules.specs.declared.place.Move.{Move}
@@ -22,7 +22,7 @@ use Rattle.rules.specs.declared.place.Place.{Place}
 use Rattle.rules.proofs.Kept.{kept}
 use Rattle.rules.proofs.Arenas.{inside-iff, leads-iff, is-record-iff, recorded-iff, arena-lawful}
 use Rattle.rules.proofs.Recorded.{Matches, number-matches, matches-alone}
-use Rattle.rules.proofs.Unique.{no-overrun, planning-unique}
+use Rattle.rules.proofs.Unique.{planning-unique}
 use Rattle.rules.proofs.Retelling.{retold-same, retold-keeps}
 
 module _ {b c : List ℕ} (k : Keeps b) (h : Keeps c) (s : SameJob (said b) (said c)) where
@@ -100,10 +100,9 @@ module _ {b c : List ℕ} (k : Keeps b) (h : Keeps c) (s : SameJob (said b) (sai
   pub same-planning : {before after : List ℕ} {f : Fault} → Planning b before f after → Planning c before f after
   same-planning (refused n) = absurd (n (kept b .1 k))
   same-planning (no-room e l) = no-room (kept c .1 h) (rw room-same at l)
-  same-planning (overrun e l o) = absurd (no-overrun b k o)
-  same-planning {before} (planned {p} e l n x) =
+  same-planning {before} (planned {p} e l x) =
       subst (λ (r : ℕ). Planning c before (only 0) (p ++ drop r before)) (sym room-same)
-      (planned (kept c .1 h) (rw room-same at l) (no-overrun c h) (same-plan x))
+      (planned (kept c .1 h) (rw room-same at l) (same-plan x))
 
   -- ---- the other calls
 

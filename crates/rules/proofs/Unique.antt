@@ -1,17 +1,18 @@
 -- Two results that one promise allows are the same, for each public call: the answer, and of planning the whole buffer too.
 use Prim.Native.Nat.{ℕ, _<_}
 use mathlib.Core.List.{List, _++_}
-use mathlib.Core.Logic.{inl, inr}
-use mathlib.Core.Path.{_≡_, refl, sym, ap, _∙_}
+use mathlib.Core.Path.{_≡_, refl, sym, ap, _∙_, subst}
 use native.Mathlib.Omega.{arith}
 use lib.ListN.{drop}
-use Rattle.rules.specs.Job.{arena}
+use Rattle.game.specs.Game.{Inside, WinsIn, HopesIn}
+use Rattle.rules.specs.Job.{places, arena}
 use Rattle.rules.specs.Fault.{Fault}
 use Rattle.rules.specs.Bytes.{said}
 use Rattle.rules.specs.Keeps.{Keeps}
 use Rattle.rules.specs.Plan.{room}
-use Rattle.rules.specs.Calls.{Overrun, Planning, refused, no-room, overrun, planned, started, followed, advised}
+use Rattle.rules.specs.Calls.{Planning, refused, no-room, planned, started, followed, advised}
 use Rattle.rules.specs.Answers.{MovedFigures, planned-fault, advised-figures}
+use Rattle.rules.specs.declared.place.Place.{Place}
 use Rattle.rules.specs.declared.answer.Planned.{Planned}
 use Rattle.rules.specs.declared.answer.Advised.{Advised}
 use Rattle.game.proofs.Bounds.{wins-below, hopes-below}
@@ -20,32 +21,25 @@ use Rattle.rules.proofs.Arenas.{size-of, arena-lawful}
 use Rattle.rules.proofs.Plans.{plan-unique}
 use Rattle.rules.proofs.Figures.{planned-known, advised-known}
 
-below : {m n : ℕ} → m < n → n ≡ m → ⊥
-below h e = omega arith
-
--- No place of a job that keeps the rules has the number S·Q.
-pub no-overrun : (b : List ℕ) → Keeps b → Overrun (said b) → ⊥
-no-overrun b k (p, i, inl w) = below (wins-below (arena (said b)) (arena-lawful b k) _ p i w) (size-of (said b))
-no-overrun b k (p, i, inr (h, n)) = below (hopes-below (arena (said b)) (arena-lawful b k) _ p i n) (size-of (said b))
+-- No number reaches the count of places, in a job that keeps the rules.
+pub none-reaches : {b : List ℕ} → Keeps b → (p : Place) → Inside (arena (said b)) p → (n : ℕ)
+    → (WinsIn (arena (said b)) p n → n < places (said b)) × (HopesIn (arena (said b)) p n → n < places (said b))
+none-reaches {b} k p i n = (
+  λ w. subst (λ (m : ℕ). n < m) (size-of (said b)) (wins-below (arena (said b)) (arena-lawful b k) n p i w),
+  λ h. subst (λ (m : ℕ). n < m) (size-of (said b)) (hopes-below (arena (said b)) (arena-lawful b k) n p i h),
+)
 
 pub planning-unique : {b before after after′ : List ℕ} {f f′ : Fault} → Planning b before f after → Planning b before f′ after′
     → (f ≡ f′) × (after ≡ after′)
 planning-unique (refused n) (refused n′) = (refl, refl)
 planning-unique (refused n) (no-room e l) = absurd (n e)
-planning-unique (refused n) (overrun e l o) = absurd (n e)
-planning-unique (refused n) (planned e l o p) = absurd (n e)
+planning-unique (refused n) (planned e l p) = absurd (n e)
 planning-unique (no-room e l) (refused n) = absurd (n e)
 planning-unique (no-room e l) (no-room e′ l′) = (refl, refl)
-planning-unique (no-room e l) (overrun e′ l′ o) = absurd (omega arith)
-planning-unique (no-room e l) (planned e′ l′ o p) = absurd (omega arith)
-planning-unique (overrun e l o) (refused n) = absurd (n e)
-planning-unique (overrun e l o) (no-room e′ l′) = absurd (omega arith)
-planning-unique (overrun e l o) (overrun e′ l′ o′) = (refl, refl)
-planning-unique (overrun e l o) (planned e′ l′ n p) = absurd (n o)
-planning-unique (planned e l n p) (refused n′) = absurd (n′ e)
-planning-unique (planned e l n p) (no-room e′ l′) = absurd (omega arith)
-planning-unique (planned e l n p) (overrun e′ l′ o) = absurd (n o)
-planning-unique {b} {before} (planned e l n p) (planned e′ l′ n′ p′) =
+planning-unique (no-room e l) (planned e′ l′ p) = absurd (omega arith)
+planning-unique (planned e l p) (refused n) = absurd (n e)
+planning-unique (planned e l p) (no-room e′ l′) = absurd (omega arith)
+planning-unique {b} {before} (planned e l p) (planned e′ l′ p′) =
     (refl, ap (λ (x : List ℕ). x ++ drop (room (said b)) before) (plan-unique (said b) (arena-lawful b (kept b .0 e)) p p′))
 
 pub planned-unique : {b before after after′ : List ℕ} (r r′ : Planned) → Planning b before (planned-fault r) after

@@ -22,7 +22,6 @@ refusal-fault (Refusal.Field k) = with-record 12 k
 refusal-fault (Refusal.Order k) = with-record 13 k
 refusal-fault Refusal.Goal = only 6
 refusal-fault Refusal.Room = only 7
-refusal-fault Refusal.Rounds = only 8
 refusal-fault Refusal.Place = only 9
 refusal-fault Refusal.Entry = only 10
 refusal-fault Refusal.Outcome = only 11

@@ -2,12 +2,10 @@
 use Prim.Native.Nat.{ℕ, _≤_, _<_}
 use mathlib.Core.Bool.{Bool, cond, not, _&&_}
 use mathlib.Core.List.{List, _++_}
-use mathlib.Core.Logic.{_⊎_}
 use mathlib.Core.Path.{_≡_}
 use lib.Dec.{ltb, eqb}
-use lib.ListN.{length, drop, replicate}
-use Rattle.game.specs.Game.{Inside, WinsIn, HopesIn, Pending}
-use Rattle.rules.specs.Job.{Job, place, places, entry-number, entered, start, recorded, record-number, arena}
+use lib.ListN.{length, drop}
+use Rattle.rules.specs.Job.{Job, place, places, entry-number, entered, start, recorded, record-number}
 use Rattle.rules.specs.Fault.{Fault, only}
 use Rattle.rules.specs.Bytes.{fault, refusal, said}
 use Rattle.rules.specs.Plan.{entry, room, Plan, shaped}
@@ -17,18 +15,12 @@ use Rattle.game.specs.declared.entry.Entry.{Entry}
 
 -- ---- planning
 
--- labelling would still add a place in a round numbered S·Q: some place has that number
-abbrev pub Overrun : Job → Type 0
-Overrun j = (p : Place) × Inside (arena j) p × (WinsIn (arena j) p (places j) ⊎ (Pending (arena j) p × HopesIn (arena j) p (places j)))
-
 -- `Planning b before f after`: planning the job b into a buffer that holds `before` answers f and leaves `after`.
--- A refusal keeps every byte, save that 8 leaves the first 4·S·Q zero; bytes beyond the plan stay.
+-- A refusal changes nothing in the plan buffer; a plan leaves the bytes beyond it as they were.
 pub data Planning (b before : List ℕ) : Fault → List ℕ → Type 0 where
   refused : (refusal b ≡ 0 → ⊥) → Planning b before (fault b) before
   no-room : refusal b ≡ 0 → length before < room (said b) → Planning b before (only 7) before
-  overrun : refusal b ≡ 0 → room (said b) ≤ length before → Overrun (said b)
-      → Planning b before (only 8) (replicate (room (said b)) 0 ++ drop (room (said b)) before)
-  planned : {p : List ℕ} → refusal b ≡ 0 → room (said b) ≤ length before → (Overrun (said b) → ⊥) → Plan (said b) p
+  planned : {p : List ℕ} → refusal b ≡ 0 → room (said b) ≤ length before → Plan (said b) p
       → Planning b before (only 0) (p ++ drop (room (said b)) before)
 
 -- ---- starting and following

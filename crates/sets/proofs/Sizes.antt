@@ -42,6 +42,16 @@ count-le f (suc n) = go (f n) (count-le f n)
     go true h = omega arith
     go false h = omega arith
 
+-- no more numbers pass than there are, where none from n on passes
+pub count-within : (f : ℕ → Bool) (n m : ℕ) → ((x : ℕ) → n ≤ x → f x ≡ false) → count f m ≤ n
+unfolding count
+count-within f n zero h = omega arith
+count-within f n (suc m) h =
+    ⊎-elim
+    (λ (l : m < n). omega (arith, count-le f (suc m)))
+    (λ (l : n ≤ m). rw (h m l) (omega (arith, count-within f n m h)))
+    (below-or m n)
+
 one-digit : (x : ℕ) → x < 2 → one (eqb x 1) ≡ x
 one-digit x h = ⊎-elim (λ e. rw e) (λ e. rw e) (two x h)
 
@@ -68,7 +78,7 @@ count-word ws i h =
     inside : (j : ℕ) → j < 64 → member ws (64 * i + j) ≡ bit (getD ws i 0) j
     inside j l = ap₂ (λ (x y : ℕ). bit (getD ws x 0) y) (omega arith) (omega arith)
 
--- ---- a set within another: of one size it is the same, and of a larger one there is an element more
+-- ---- a set within another: it is no larger, and of one size it is the same
 
 module _ (f g : ℕ → Bool) (h : (x : ℕ) → f x ≡ true → g x ≡ true) where
   pub count-sub : (n : ℕ) → count f n ≤ count g n
@@ -95,18 +105,3 @@ module _ (f g : ℕ → Bool) (h : (x : ℕ) → f x ≡ true → g x ≡ true) 
       go true false k l e = absurd (false≢true (k refl))
       go false true k l e = absurd (omega arith)
       go false false k l e = (omega arith, refl)
-
-  pub count-more : (n : ℕ) → count f n < count g n → (x : ℕ) × (x < n) × (f x ≡ false) × (g x ≡ true)
-  unfolding count
-  count-more zero e = absurd (omega arith)
-  count-more (suc n) e =
-      ⊎-elim
-      (λ (p : count f n < count g n). let r = count-more n p in (r .0, omega (arith, r .1), r .2, r .3))
-      (λ (p : count g n ≤ count f n). let r = go (f n) (g n) refl refl p e in (n, omega arith, r .0, r .1))
-      (below-or (count f n) (count g n))
-    where
-      go : (a b : Bool) → f n ≡ a → g n ≡ b → count g n ≤ count f n → count f n + one a < count g n + one b → (f n ≡ false) × (g n ≡ true)
-      go true true s t p e = absurd (omega arith)
-      go true false s t p e = absurd (omega arith)
-      go false true s t p e = (s, t)
-      go false false s t p e = absurd (omega arith)

@@ -113,7 +113,7 @@ returns c =
     record {
       as-long = n .passed .as-long ∙ i .1;
       settles =
-          going-stop (x .pre .fit) (i .3) (n .passed) _ _ refl (w .words-for .ensures .0)
+          going-stop (x .pre .fit) (i .3) (n .passed) _ (w .words-for .ensures .0)
           (sym (c .before .size-of2 .ensures) ∙ c .if1 .taken ∙ i .2);
       taken = a .loop .known .words;
       counted = counted-then (i .5) (layered-counted n);
@@ -153,7 +153,7 @@ loop-again c =
       omega (arith, i .0, more c .0),
       n .passed .as-long ∙ i .1,
       c .before .size-of2 .ensures,
-      going-more (x .pre .fit) (i .3) (n .passed) _ (λ q. c .if1 .left (c .before .size-of2 .ensures ∙ q ∙ sym (i .2))),
+      going-more (x .pre .fit) (i .3) (n .passed),
       between-same (n .takes) (between-next (x .pre .fit) (i .4) (n .passed)),
       counted-then (i .5) (n .counted),
       refl,

@@ -4,7 +4,7 @@ use borrow.Author.Needs.{needs}
 use Rattle.rules.specs.Calls.{no-room}
 use Rattle.rules.proofs.Kept.{kept}
 use Rattle.job.proofs.Asking.{few-places, places-said}
-use Rattle.phases.proofs.Planning.{planned-done, planned-over}
+use Rattle.phases.proofs.Planning.{planned-done}
 use Rattle.labelling.proofs.plan.plan_read.Statement.{statement}
 use Rattle.labelling.proofs.plan.plan_read.Tie as tie
 
@@ -23,40 +23,14 @@ returns c =
 label-all-requires : tie.Need-label-all-requires
 label-all-requires c κs = search needs
 
-clear-requires : tie.Need-clear-requires
-clear-requires c κs = search needs
-
 same-length : tie.Need-same-length
 same-length c = search needs
 
 returns-2 : tie.Need-returns-2
 returns-2 c =
-    let t = c .before .before .before .before .before .before .before .before .before .before .before .before .before .pre in
+    let t = c .before .before .before .before .before .before .before .before .pre in
     let n = places-said t in
-    rw (c .before .before .clear .ensures, n)
-    (planned-over (t .keeps) (omega arith) (c .before .before .before .before .before .before .before .label-all .ensures)
-    (c .before .before .before .before .if2 .taken))
-
-same-length-2 : tie.Need-same-length-2
-same-length-2 c = search needs
-
-returns-3 : tie.Need-returns-3
-returns-3 c =
-    let t = c .before .before .before .before .before .before .before .before .before .pre in
-    let n = places-said t in
-    planned-done (t .keeps) (omega arith) (c .before .before .before .label-all .ensures) (c .if2 .left)
-    (λ y. c .before .slice-known2 .given y .fits)
+    planned-done (t .keeps) (omega arith) (c .before .before .label-all .ensures) (λ y. c .slice-known2 .given y .fits)
 
 pub plan-read-spec : {M : Type 1} → statement M
-plan-read-spec =
-    tie.close
-    (tie.spec
-    mul-room
-    mul-room-2
-    returns
-    label-all-requires
-    clear-requires
-    same-length
-    returns-2
-    same-length-2
-    returns-3)
+plan-read-spec = tie.close (tie.spec mul-room mul-room-2 returns label-all-requires same-length returns-2)
