@@ -25,6 +25,8 @@
    The library needs no heap, keeps nothing between calls, and takes every input: what is bad is refused by number, the first fault
    first. A refusal changes nothing in a buffer that you lend.
 
+   On the stack planning takes up to 20 KiB, planning with an index 16 KiB, the check of a plan 88 KiB, and every other call less than 1 KiB, whatever the job.
+
    What you owe: a pointer and its length describe memory of yours that holds that many bytes for as long as the call runs; a length of
    0 wants a pointer that is not null all the same; the buffers of a call do not overlap; and nothing else writes to them during a call.
    Calls on different buffers may run at the same time.
@@ -132,7 +134,7 @@ cabinet_planned cabinet_plan(const uint8_t *job, size_t job_len, uint8_t *plan, 
    round: take it where numbers are large. It needs two buffers more, lengths in words of two bytes: CABINET_INDEX_WORDS(S, records) and
    CABINET_COUNTERS_WORDS(S, Q, A). What they hold before does not matter. On success the index lists each record once: word t, below S, is the first
    record that leads to state t, word S + k the next after record k that leads where k does, and the count of records stands for none; the used
-   counters are 0; and words beyond these stay as they are. Gives 1 to 7, 12, 13, and after 7 17; never 8. */
+   counters are 0; and words beyond these stay as they are. Gives 1 to 7, 12, 13, and after 7 17. */
 cabinet_planned cabinet_plan_indexed(const uint8_t *job, size_t job_len, uint8_t *plan, size_t plan_len, uint16_t *index, size_t index_len,
                                      uint16_t *counters, size_t counters_len);
 
@@ -163,7 +165,7 @@ cabinet_written cabinet_goal(const uint8_t *clauses, size_t clauses_len, uint32_
    all of its outcomes are winning with smaller numbers, at a pending one when some outcome is winning, where the number is 1, or else pending
    with a number one smaller; where the goal is met, or lost, it is 255. 16 comes with the place of the lowest wrong entry, the least of s * Q + q. An
    entry is judged by the job alone, whatever the plan's other entries say. Bytes beyond the plan are not looked at; neither job nor plan is written. The
-   call plans the job for itself on the stack: it needs 22 KiB of it. Whoever follows a plan that passes has what following our own promises. Gives 1
+   call plans the job for itself on the stack: it needs 88 KiB of it. Whoever follows a plan that passes has what following our own promises. Gives 1
    to 7, 12, 13, 16. */
 cabinet_checked cabinet_check(const uint8_t *job, size_t job_len, const uint8_t *plan, size_t plan_len);
 

@@ -89,7 +89,7 @@ impl Tally {
             && [FIELD, ORDER].iter().all(|&number| self.bad(number, |record| record > 4_095))
             && self.bad(FIELD, |record| record == 0)
             && self.bad(ORDER, |record| record == 1)
-            && [0, 4_095].iter().all(|record| self.followed.contains(record))
+            && [0, 4_095, 8_191].iter().all(|record| self.followed.contains(record))
     }
 
     pub fn print(&self) {
