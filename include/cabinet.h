@@ -27,7 +27,7 @@
 
    On the stack planning takes up to 20 KiB, planning with an index 16 KiB, the check of a plan 88 KiB, and every other call less than 1 KiB, whatever the job.
 
-   What you owe: a pointer and its length describe memory of yours that holds that many bytes for as long as the call runs; a length of
+   What you owe: a pointer and its length describe memory of yours that holds that many bytes, or words of two bytes in an index and counters, for as long as the call runs; a length of
    0 wants a pointer that is not null all the same; the buffers of a call do not overlap; and nothing else writes to them during a call.
    Calls on different buffers may run at the same time.
 

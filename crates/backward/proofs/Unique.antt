@@ -42,7 +42,7 @@ indexed-unique {j} {before} {a} {a′} x x′ =
 pub filled-unique : {n x : ℕ} {before a a′ : List ℕ} → Filled n x before a → Filled n x before a′ → a ≡ a′
 filled-unique {a} {a′} f g = ext-getD 0 a a′ (f .as-long ∙ sym (g .as-long)) (λ y h. f .words y ∙ sym (g .words y))
 
-short : {m n i c : ℕ} → m ≤ i → n ≤ c → (i < m) ⊎ (c < n) → ⊥
+pub short : {m n i c : ℕ} → m ≤ i → n ≤ c → (i < m) ⊎ (c < n) → ⊥
 short h g (inl l) = omega arith
 short h g (inr l) = omega arith
 

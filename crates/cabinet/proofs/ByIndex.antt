@@ -6,15 +6,18 @@ use mathlib.Core.Logic.{_⊎_, inl, inr}
 use mathlib.Core.Path.{_≡_, refl}
 use native.Mathlib.Omega.{arith}
 use lib.ListN.{length}
-use Rattle.rules.specs.Fault.{Fault}
+use Rattle.rules.specs.Fault.{Fault, only}
 use Rattle.rules.specs.Bytes.{said}
 use Rattle.rules.specs.Calls.{Planning}
 use Rattle.rules.proofs.Figures.{known-by}
 use Rattle.rules.proofs.Numbers.{Told, told}
+use Rattle.rules.proofs.Unique.{planning-unique}
 use Rattle.backward.specs.Index.{index-size}
 use Rattle.backward.specs.Counts.{counters-size}
 use Rattle.backward.specs.Call.{PlanningBy, refused, no-room, no-memory, planned}
-use Rattle.backward.proofs.Unique.{by-unique, same-plan}
+use Rattle.backward.proofs.Unique.{by-unique, same-plan, is-planning}
+use Rattle.cabinet.specs.declared.checks.CheckedFigures.{CheckedFigures}
+use Rattle.cabinet.proofs.Checking.{CheckCalled, own-plan-passes}
 use Rattle.cabinet.specs.Figures.{figures-planned}
 use Rattle.cabinet.specs.declared.calls.PlannedFigures.{PlannedFigures}
 use Rattle.cabinet.proofs.Ranges.{OfPlanning}
@@ -46,3 +49,14 @@ pub indexed-same : {b before index counters after after′ i c : List ℕ} (r r�
     → counters-size (said b) ≤ length counters → Planning b before (figures-planned r) after
     → PlanningBy b before index counters (figures-planned r′) after′ i c → (r ≡ r′) × (after ≡ after′)
 indexed-same r r′ h g p q = let (e, a) = same-plan h g p q in (figures-known r r′ e, a)
+
+-- And whatever memory it was lent, unless it says 17.
+pub indexed-same-else : {b before index counters after after′ i c : List ℕ} (r r′ : PlannedFigures) → (r′ .refusal ≡ 17 → ⊥)
+    → Planning b before (figures-planned r) after → PlanningBy b before index counters (figures-planned r′) after′ i c
+    → (r ≡ r′) × (after ≡ after′)
+indexed-same-else r r′ z p q = let (e, a) = planning-unique p (is-planning q z) in (figures-known r r′ e, a)
+
+-- Its plans pass the check too.
+pub indexed-plan-passes : {b before index counters after i c : List ℕ} (r : CheckedFigures) → PlanningBy b before index counters (only 0) after i c
+    → CheckCalled b after r → r .refusal ≡ 0
+indexed-plan-passes r d c = own-plan-passes r (is-planning d (λ z. omega arith)) c

@@ -17,7 +17,7 @@ use Rattle.rules.proofs.Kept.{kept}
 use Rattle.rules.proofs.Numbers.{Among, told}
 use Rattle.rules.proofs.Arenas.{inside-iff}
 use Rattle.rules.proofs.Planned.{planned-exactly, planned-right, planned-long}
-use Rattle.checking.specs.Checking.{AllowedAt, Checking, refused, no-room, wrong, passed}
+use Rattle.checking.specs.Checking.{AllowedAt, AllowedBefore, Checking, refused, no-room, wrong, passed}
 
 -- ---- the check has one answer
 
@@ -66,6 +66,7 @@ pub record WrongAt (b p : List ℕ) (s q : ℕ) : Type 0 where
   pub state : s < said b .states
   pub goal : q < said b .goals
   pub not-allowed : AllowedAt b p s q → ⊥
+  pub before : AllowedBefore b p s q
 
 pub wrong-at : {b p : List ℕ} {f : Fault} {s q : ℕ} → Checking b p f s q → f .number ≡ 16 → WrongAt b p s q
 wrong-at {b} (refused n) z = absurd (job-not-16 (told b .among) z)
@@ -75,8 +76,12 @@ wrong-at {b} (refused n) z = absurd (job-not-16 (told b .among) z)
     job-not-16 (inr (inl h)) e = omega arith
     job-not-16 (inr (inr h)) e = omega arith
 wrong-at (no-room e l) z = absurd (omega arith)
-wrong-at {b} (wrong e l hs hq w f) z = record { keeps = kept b .0 e; whole = l; state = hs; goal = hq; not-allowed = w }
+wrong-at {b} (wrong e l hs hq w f) z = record { keeps = kept b .0 e; whole = l; state = hs; goal = hq; not-allowed = w; before = f }
 wrong-at (passed e l f) z = absurd (omega arith)
+
+-- and 16 is given with that place wherever there is one
+pub wrong-given : {b p : List ℕ} {f : Fault} {s q t r : ℕ} → Checking b p f s q → WrongAt b p t r → (f ≡ only 16) × (s ≡ t) × (q ≡ r)
+wrong-given {b} c w = checking-unique c (wrong (kept b .1 (w .keeps)) (w .whole) (w .state) (w .goal) (w .not-allowed) (w .before))
 
 -- Our own plans always pass, and nothing else is answered of them.
 pub own-passes : {b before after : List ℕ} → Planning b before (only 0) after → Checking b after (only 0) 0 0
