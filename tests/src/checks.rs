@@ -15,6 +15,8 @@ const WAYS: usize = 600;
 const BY_CHANCE: usize = 40;
 /// So many steps of looking at records are cheap enough to plan often.
 const CHEAP: usize = 100_000;
+/// So many are checked on one side alone.
+const DEAR: usize = 1_000_000_000;
 
 #[derive(Default)]
 struct Seen {
@@ -136,7 +138,11 @@ impl Desk<'_> {
                 continue;
             };
             let largest = oracle.entries.iter().map(|entry| entry.number).max().unwrap_or(0);
-            let cheap = (largest + 2) * (job.moves.len() + job.states) * job.goals < CHEAP;
+            let cost = (largest + 2) * (job.moves.len() + job.states) * job.goals;
+            if cost > DEAR && side == Side::Begin {
+                continue;
+            }
+            let cheap = cost < CHEAP;
             self.check(&oracle, side, &oracle.plan);
             if every {
                 self.all_ties(&oracle, job, side, random);
@@ -215,7 +221,8 @@ pub fn agree(seed: u64) -> bool {
         input.kind == "tiny" && Oracle::new(&input.job).job.is_ok()
     };
     // The jobs given in full, One plate with busy states, and tiny ones.
-    let given = (0..22).filter(|number| !(4..7).contains(number));
+    let small = ["job given in full", "One plate with busy states"];
+    let given = (0..inputs.fixed()).filter(|&number| small.contains(&inputs.get(number).kind));
     let tiny: Vec<u64> = given.chain((inputs.fixed()..).filter(good).take(TINY)).collect();
     let mut desk = Desk { cases: Cases::new(), inputs: &inputs, plans: Vec::new(), seen: Seen::default() };
     let count = tiny.len() as u64 + inputs.fixed() + MIXED;
