@@ -130,7 +130,7 @@ typedef struct {
 cabinet_planned cabinet_plan(const uint8_t *job, size_t job_len, uint8_t *plan, size_t plan_len);
 
 /* The same answer and the same plan, byte for byte, by a second engine, which works backward from where the goal is met with an index of the
-   records that lead to each state. It looks at each record at most 4 * Q times in all, whatever the numbers, where `cabinet_plan` looks at all of them once a
+   records that lead to each state. It looks at each record at most 4 * Q times beside reading and indexing it, whatever the numbers, where `cabinet_plan` looks at each up to Q times a
    round: take it where numbers are large. It needs two buffers more, lengths in words of two bytes: CABINET_INDEX_WORDS(S, records) and
    CABINET_COUNTERS_WORDS(S, Q, A). What they hold before does not matter. On success the index lists each record once: word t, below S, is the first
    record that leads to state t, word S + k the next after record k that leads where k does, and the count of records stands for none; the used

@@ -1,5 +1,4 @@
--- Two results that the promise allows are the same, answer and all three buffers; the answer and the plan are the first engine's; and no
--- answer is 8.
+-- Two results that the promise allows are the same, answer and all three buffers; and the answer and the plan are the first engine's.
 use Prim.Native.Nat.{ℕ, _+_, _-_, _≤_, _<_}
 use mathlib.Core.List.{List, _++_}
 use mathlib.Core.Logic.{inl, inr, ⊎-elim, _⊎_}
