@@ -106,9 +106,6 @@ module _ {b : List ℕ} (k : Keeps b) where
   pub places-few : places (said b) ≤ set-room
   places-few = mul-le-mul states-few (k .few-goals)
 
-  pub places-some : 1 ≤ places (said b)
-  places-some = mul-le-mul (k .some-states) (k .some-goals)
-
   pub width-few : width b ≤ 64
   width-few = pow-mono (k .few-propositions)
 
