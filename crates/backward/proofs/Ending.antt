@@ -14,7 +14,6 @@ use Rattle.sets.specs.Sets.{member}
 use Rattle.rules.specs.Job.{Job, places}
 use Rattle.rules.specs.Plan.{room, Plan}
 use Rattle.rules.specs.Calls as calls
-use Rattle.sets.specs.declared.places.PlaceSet.{PlaceSet}
 use Rattle.sets.proofs.Bits.{below-or}
 use Rattle.rules.proofs.Kept.{kept}
 use Rattle.job.specs.Layout.{Fit}
@@ -44,18 +43,18 @@ pub first-inside : {b : List ℕ} {l : Layout} (t : Fit b l) {plan ws plan′ : 
     → member ws x ≡ true → x < places (said b)
 first-inside t r x m = member-held (holds-begin t r) x m .0
 
-module _ {b : List ℕ} {l : Layout} (t : Fit b l) {before plan1 plan2 counters1 counters2 : List ℕ} {first won : PlaceSet}
-    (r : BegunAll b l before (first .words) plan1) (d : LayersDone b Phase.Winning (first .words) plan1 counters1 won plan2 counters2) where
+module _ {b : List ℕ} {l : Layout} (t : Fit b l) {before plan1 plan2 counters1 counters2 first won queue2 : List ℕ} {tail2 : ℕ}
+    (r : BegunAll b l before first plan1) (d : LayersDone b Phase.Winning first plan1 counters1 won plan2 counters2 queue2 tail2) where
   -- the winning places
-  pub won-of : WonOf b before (won .words) plan2
+  pub won-of : WonOf b before won plan2
   won-of = d .settles _ _ _ (holds-begin t r)
 
-  pub won-inside : (x : ℕ) → member (won .words) x ≡ true → x < places (said b)
+  pub won-inside : (x : ℕ) → member won x ≡ true → x < places (said b)
   won-inside x m = member-held (won-of .holds) x m .0
 
   -- and the rest
-  pub labelled-all : {plan3 counters3 counters4 : List ℕ} {all : PlaceSet}
-      → LayersDone b Phase.Pending (won .words) plan2 counters3 all plan3 counters4 → Labelled (said b) before plan3
+  pub labelled-all : {plan3 counters3 counters4 all queue3 : List ℕ} {tail3 : ℕ}
+      → LayersDone b Phase.Pending won plan2 counters3 all plan3 counters4 queue3 tail3 → Labelled (said b) before plan3
   labelled-all e = labelled-both (t .keeps) won-of (e .settles _ _ _ (won-of .holds))
 
 -- the counters are 0 at the end

@@ -11,7 +11,6 @@ use lib.Dec.{eqb}
 use lib.ListN.{getD}
 use Rattle.rules.specs.Bytes.{said}
 use Rattle.rules.specs.Keeps.{Keeps}
-use Rattle.sets.specs.Sets.{set-room, member, Put}
 use Rattle.game.specs.Game.{Listed}
 use Rattle.rules.specs.Job.{Job, place, places, entered, entry-number, recorded, arena}
 use Rattle.rules.specs.declared.place.Place.{Place}
@@ -20,13 +19,13 @@ use Rattle.game.proofs.Lists.{how-many, every, sure, some-ext, sure-ext, sure-a
 use Rattle.game.proofs.Search.{clash, either}
 use Rattle.game.proofs.Tests.{and-iff, eqb-iff, same-test}
 use Rattle.phases.specs.declared.phase.Phase.{Phase}
-use Rattle.phases.specs.Wanted.{in-set, wanted}
+use Rattle.phases.specs.Wanted.{wanted}
 use Rattle.phases.specs.Pass.{place-at}
 use Rattle.backward.specs.Counts.{untaken}
 use Rattle.backward.specs.Notes.{from-all}
-use Rattle.backward.specs.Layer.{unsure}
+use Rattle.backward.specs.Queue.{numbered}
+use Rattle.backward.specs.Step.{unsure}
 use Rattle.backward.proofs.Counting.{every-count}
-use Rattle.backward.proofs.Filling.{put-members}
 use Rattle.backward.proofs.Taking.{into}
 
 -- where a member passes, the test that all pass is the test of a list that is not empty
@@ -44,8 +43,8 @@ module _ {A : Type 0} (f g : A → Bool) (wider : (t : A) → f t ≡ true → g
       go false true h = sym (h refl)
       go false false h = refl
 
-module _ {b : List ℕ} (k : Keeps b) {t g : ℕ} {taken taken′ : List ℕ} (ht : t < said b .states) (hg : g < said b .goals)
-    (few : t * said b .goals + g < set-room) (p : Put taken (t * said b .goals + g) taken′) where
+module _ {b : List ℕ} (k : Keeps b) {t g : ℕ} (f f′ : ℕ → Bool) (ht : t < said b .states) (hg : g < said b .goals)
+    (members : (x : ℕ) → f′ x ≡ (eqb x (t * said b .goals + g) || f x)) where
   abbrev job : Job
   job = said b
 
@@ -53,13 +52,10 @@ module _ {b : List ℕ} (k : Keeps b) {t g : ℕ} {taken taken′ : List ℕ} (h
   here = t * said b .goals + g
 
   abbrev before : Place → Bool
-  before = in-set (job .goals) taken
+  before = numbered (job .goals) f
 
   abbrev after : Place → Bool
-  after = in-set (job .goals) taken′
-
-  members : (x : ℕ) → member taken′ x ≡ (eqb x here || member taken x)
-  members = put-members few p
+  after = numbered (job .goals) f′
 
   wider : (z : Place) → before z ≡ true → after z ≡ true
   wider z e = members (entry-number (job .goals) z) ∙ rw e (or-true (eqb (entry-number (job .goals) z) here))
@@ -91,18 +87,18 @@ module _ {b : List ℕ} (k : Keeps b) {t g : ℕ} {taken taken′ : List ℕ} (h
     -- where it is not listed, no outcome is newly taken
     others : leads-here ≡ false → (z : Place) → List·Memᴰ z outs → before z ≡ after z
     others n z l =
-        let (m, h, f, e) = leads-iff job at z a .0 l in
+        let (m, h, w, e) = leads-iff job at z a .0 l in
         let o = job .move m .outcome in
         let q = x % job .goals in
         let no : entry-number (job .goals) z ≡ here → ⊥ =
-        λ w.
-        let w′ : o * job .goals + entered job q o .goal ≡ here = subst (λ (u : Place). entry-number (job .goals) u ≡ here) e w in
+        λ u.
+        let w′ : o * job .goals + entered job q o .goal ≡ here = subst (λ (u : Place). entry-number (job .goals) u ≡ here) e u in
         let low = k .next-below q (job .label o) goal-below (k .label-below o (k .outcome-below m h)) in
         let s : o ≡ t = sym (digits-div o low) ∙ ap (λ (u : ℕ). u / job .goals) w′ ∙ digits-div t hg in
         let d : entered job q o .goal ≡ g = sym (digits-mod o low) ∙ ap (λ (u : ℕ). u % job .goals) w′ ∙ digits-mod t hg in
         clash (and-iff (eqb-iff (entered job q t .goal) g) (recorded-iff job (x / job .goals) a t) .1 (
           subst (λ (u : ℕ). entered job q u .goal ≡ g) s d,
-          (m, h, is-record-iff (job .move m) (x / job .goals) a t .1 (f, s)),
+          (m, h, is-record-iff (job .move m) (x / job .goals) a t .1 (w, s)),
         )) n
         in
         sym (members (entry-number (job .goals) z) ∙ rw (ne-eqb (entry-number (job .goals) z) here no))

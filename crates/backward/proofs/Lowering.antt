@@ -1,6 +1,6 @@
 -- Counters that fall: one record, the records that lead to a state, and all goal states.
-use Prim.Native.Nat.{ℕ, _+_, _*_, _-_, _/_, _%_, _≤_, _<_}
-use mathlib.Core.Bool.{true, false, cond, not, and-false}
+use Prim.Native.Nat.{ℕ, _+_, _*_, _-_, _/_, _%_, _≤_, _<_, zero-le}
+use mathlib.Core.Bool.{Bool, true, false, and-false}
 use mathlib.Core.List.{List}
 use mathlib.Core.Logic.{⊎-elim, Iff·rfl}
 use mathlib.Core.Path.{_≡_, refl, sym, _∙_}
@@ -9,18 +9,18 @@ use native.Mathlib.Omega.{arith}
 use borrow.Author.Tests.{eq-eqb, ne-eqb}
 use lib.Dec.{eqb}
 use lib.ListN.{length, getD, set, length-set}
-use Rattle.sets.specs.Sets.{one, count}
+use lib.Seq.{getD-set-same, getD-set-other}
+use Rattle.sets.specs.Sets.{count}
 use Rattle.rules.specs.Job.{Job, is-from}
 use Rattle.rules.proofs.Arenas.{is-from-iff, is-record-iff}
 use Rattle.sets.proofs.Bits.{same-or}
 use Rattle.game.proofs.Search.{if-not-true}
 use Rattle.sets.proofs.Sizes.{count-none}
 use Rattle.game.proofs.Tests.{and-iff, eqb-iff}
-use Rattle.backward.specs.Step.{hit, Lowered}
-use Rattle.backward.proofs.Filling.{stored}
+use Rattle.backward.specs.Step.{Fell, hit, Lowered}
 use Rattle.backward.proofs.Listing.{Skips}
 use Rattle.backward.proofs.Spots.{spot-action, spot-state, spot-goal, spot-back}
-use Rattle.backward.proofs.Walking.{count-next, count-over, count-mono}
+use Rattle.backward.proofs.Walking.{count-next, count-over}
 
 -- ---- the records that lead to a state, at one goal state
 
@@ -68,34 +68,55 @@ module _ {j : Job} {t q : ℕ} where
       }
 
   pub lowered-none : {ws : List ℕ} → Lowered j t q 0 ws ws
-  lowered-none {ws} = record { as-long = refl; words = λ y. rw (count-none (hit j t q y)) (add-zero (getD ws y 0)) }
+  lowered-none {ws} = record { as-long = refl; words = λ y. omega (arith, count-none (hit j t q y)) }
 
-  module _ {k : ℕ} {before now : List ℕ} (r : Lowered j t q k before now) (a : j .move k .action < j .actions) (h : q < j .goals)
-      (e : j .move k .outcome ≡ t) where
-    -- the counter of record k is not yet 0
-    pub lowered-some : k < j .records → count (hit j t q (spot j t q k)) (j .records) ≤ getD before (spot j t q k) 0
-        → 1 ≤ getD now (spot j t q k) 0
-    lowered-some l b =
-        let f = hit j t q (spot j t q k) in
-        let one-more : count f (k + 1) ≡ count f k + 1 = count-next f k ∙ rw (hit-here j t q k a h e) in
-        omega (arith, count-mono f (k + 1) (j .records) (omega arith), r .words (spot j t q k))
+  -- a counter of another goal state stays
+  pub lowered-other : {k : ℕ} {before now : List ℕ} → Lowered j t q k before now → (y : ℕ) → (y / j .actions % j .goals ≡ q → ⊥)
+      → getD now y 0 ≡ getD before y 0
+  lowered-other {k} r y n =
+      let none : count (hit j t q y) k ≡ 0 =
+      count-over (hit j t q y) 0 k zero-le (λ i a b. rw (ne-eqb (y / j .actions % j .goals) q n)) ∙ count-none (hit j t q y) in
+      omega (arith, none, r .words y)
 
-    pub lowered-more : spot j t q k < length now → 1 ≤ getD now (spot j t q k) 0
-        → Lowered j t q (k + 1) before (set now (spot j t q k) (getD now (spot j t q k) 0 - 1))
-    lowered-more l p =
-        record {
-          as-long = length-set now (spot j t q k) (getD now (spot j t q k) 0 - 1) ∙ r .as-long;
-          words = λ y. rw (stored now (spot j t q k) (getD now (spot j t q k) 0 - 1) y l, count-next (hit j t q y) k)
-              (⊎-elim (here y) (there y) (same-or y (spot j t q k)));
-        }
-      where
-        here : (y : ℕ) → y ≡ spot j t q k
-            → cond (eqb y (spot j t q k)) (getD now (spot j t q k) 0 - 1) (getD now y 0) + (count (hit j t q y) k + one (hit j t q y k))
-            ≡ getD before y 0
-        here y z =
-            rw (eq-eqb y (spot j t q k) z, z, hit-here j t q k a h e) (omega (arith, r .words (spot j t q k)))
+  -- the counter of record k falls
+  pub lowered-more : {k : ℕ} {b : Bool} {before now now′ : List ℕ} → Lowered j t q k before now → j .move k .action < j .actions → q < j .goals
+      → j .move k .outcome ≡ t → Fell (spot j t q k) now b now′ → Lowered j t q (k + 1) before now′
+  lowered-more {k} {before} {now} {now′} r a h e f =
+      record {
+        as-long = f .as-long ∙ r .as-long;
+        words = λ y. ⊎-elim (here y) (there y) (same-or y (spot j t q k));
+      }
+    where
+      here : (y : ℕ) → y ≡ spot j t q k → getD now′ y 0 ≡ getD before y 0 - count (hit j t q y) (k + 1)
+      here y z =
+          let more : count (hit j t q (spot j t q k)) (k + 1) ≡ count (hit j t q (spot j t q k)) k + 1 =
+          count-next (hit j t q (spot j t q k)) k ∙ rw (hit-here j t q k a h e) in
+          rw z (omega (arith, f .here, r .words (spot j t q k), more))
 
-        there : (y : ℕ) → (y ≡ spot j t q k → ⊥)
-            → cond (eqb y (spot j t q k)) (getD now (spot j t q k) 0 - 1) (getD now y 0) + (count (hit j t q y) k + one (hit j t q y k))
-            ≡ getD before y 0
-        there y n = rw (ne-eqb y (spot j t q k) n, hit-there j t q y k n, add-zero (count (hit j t q y) k)) (r .words y)
+      there : (y : ℕ) → (y ≡ spot j t q k → ⊥) → getD now′ y 0 ≡ getD before y 0 - count (hit j t q y) (k + 1)
+      there y n =
+          let same : count (hit j t q y) (k + 1) ≡ count (hit j t q y) k =
+          count-next (hit j t q y) k ∙ rw (hit-there j t q y k n) (add-zero (count (hit j t q y) k)) in
+          rw same (f .others y n ∙ r .words y)
+
+-- ---- one counter
+
+module _ (cs : List ℕ) (i : ℕ) (h : i < length cs) where
+  pub fell-more : 1 < getD cs i 0 → Fell i cs false (set cs i (getD cs i 0 - 1))
+  fell-more l =
+      record {
+        as-long = length-set cs i (getD cs i 0 - 1);
+        here = getD-set-same cs i (getD cs i 0 - 1) 0 h;
+        others = λ y n. getD-set-other cs i y (getD cs i 0 - 1) 0 n;
+        told = sym (ne-eqb (getD cs i 0 - 1) 0 (λ e. omega arith));
+      }
+
+  pub fell-last : getD cs i 0 ≤ 1 → Fell i cs true (set cs i 0)
+  fell-last l =
+      let z : getD cs i 0 - 1 ≡ 0 = omega arith in
+      record {
+        as-long = length-set cs i 0;
+        here = getD-set-same cs i 0 0 h ∙ sym z;
+        others = λ y n. getD-set-other cs i y 0 0 n;
+        told = sym (eq-eqb (getD cs i 0 - 1) 0 z);
+      }

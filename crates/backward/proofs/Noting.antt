@@ -69,44 +69,44 @@ has-known ws {x} h e d = sym (rw (lt-ltb x set-room h) at e) ∙ d
 
 -- ---- the same actions, said otherwise
 
-module _ (places actions v n : ℕ) (known : List ℕ) where
-  module _ {found found′ : ℕ → ℕ → Bool} (same : (x a : ℕ) → x < places → member known x ≡ false → a < actions → found x a ≡ found′ x a)
+module _ (places actions v n : ℕ) (known : ℕ → Bool) where
+  module _ {found found′ : ℕ → ℕ → Bool} (same : (x a : ℕ) → x < places → known x ≡ false → a < actions → found x a ≡ found′ x a)
     where
-      some-same : (x : ℕ) → (ltb x places && some-below actions (found x) || member known x)
-          ≡ (ltb x places && some-below actions (found′ x) || member known x)
+      some-same : (x : ℕ) → (ltb x places && some-below actions (found x) || known x)
+          ≡ (ltb x places && some-below actions (found′ x) || known x)
       some-same x = ⊎-elim inside (λ (l : places ≤ x). rw (le-ltb x places l)) (below-or x places)
         where
-          inside : x < places → (ltb x places && some-below actions (found x) || member known x)
-              ≡ (ltb x places && some-below actions (found′ x) || member known x)
+          inside : x < places → (ltb x places && some-below actions (found x) || known x)
+              ≡ (ltb x places && some-below actions (found′ x) || known x)
           inside l =
               rw (lt-ltb x places l)
               (⊎-elim
-              (λ (e : member known x ≡ true). rw e (or-true (some-below actions (found x)) ∙ sym (or-true (some-below actions (found′ x)))))
-              (λ (e : member known x ≡ false). rw (some-below-ext (found x) (found′ x) actions (λ a h. same x a l e h)))
-              (either (member known x)))
+              (λ (e : known x ≡ true). rw e (or-true (some-below actions (found x)) ∙ sym (or-true (some-below actions (found′ x)))))
+              (λ (e : known x ≡ false). rw (some-below-ext (found x) (found′ x) actions (λ a h. same x a l e h)))
+              (either (known x)))
 
-      bytes-same : (x d z : ℕ) → cond (ltb x places && (not (member known x) && some-below actions (found x)))
+      bytes-same : (x d z : ℕ) → cond (ltb x places && (not (known x) && some-below actions (found x)))
           (entry-byte (says v (lowest (found x) actions) n) d) z
-          ≡ cond (ltb x places && (not (member known x) && some-below actions (found′ x)))
+          ≡ cond (ltb x places && (not (known x) && some-below actions (found′ x)))
           (entry-byte (says v (lowest (found′ x) actions) n) d) z
       bytes-same x d z = ⊎-elim inside (λ (l : places ≤ x). rw (le-ltb x places l)) (below-or x places)
         where
-          inside : x < places → cond (ltb x places && (not (member known x) && some-below actions (found x)))
+          inside : x < places → cond (ltb x places && (not (known x) && some-below actions (found x)))
               (entry-byte (says v (lowest (found x) actions) n) d) z
-              ≡ cond (ltb x places && (not (member known x) && some-below actions (found′ x)))
+              ≡ cond (ltb x places && (not (known x) && some-below actions (found′ x)))
               (entry-byte (says v (lowest (found′ x) actions) n) d) z
           inside l =
               rw (lt-ltb x places l)
               (⊎-elim
-              (λ (e : member known x ≡ true). rw e)
-              (λ (e : member known x ≡ false). rw (
+              (λ (e : known x ≡ true). rw e)
+              (λ (e : known x ≡ false). rw (
                 some-below-ext (found x) (found′ x) actions (λ a h. same x a l e h),
                 lowest-ext (found x) (found′ x) actions (λ a h. same x a l e h),
               ))
-              (either (member known x)))
+              (either (known x)))
 
-module _ {places actions v n : ℕ} {known : List ℕ} where
-  module _ {found found′ : ℕ → ℕ → Bool} (same : (x a : ℕ) → x < places → member known x ≡ false → a < actions → found x a ≡ found′ x a)
+module _ {places actions v n : ℕ} {known : ℕ → Bool} where
+  module _ {found found′ : ℕ → ℕ → Bool} (same : (x a : ℕ) → x < places → known x ≡ false → a < actions → found x a ≡ found′ x a)
     where
       pub found-ext : {plan₀ ws plan : List ℕ} → Found places actions v n known plan₀ found ws plan
           → Found places actions v n known plan₀ found′ ws plan
@@ -150,7 +150,7 @@ module _ {places actions v n : ℕ} {known : List ℕ} where
 
   module _ (x a : ℕ) (hx : x < places) (ha : a < actions) where
     -- the place is known: what is found at it changes nothing
-    pub only-known : {ws plan : List ℕ} → member known x ≡ true → Noted places actions v n known (only x a) ws plan ws plan
+    pub only-known : {ws plan : List ℕ} → known x ≡ true → Noted places actions v n known (only x a) ws plan ws plan
     only-known k =
         record {
           as-many = refl;
@@ -160,7 +160,7 @@ module _ {places actions v n : ℕ} {known : List ℕ} where
         }
 
     -- the place is not known: it joins, and its entry names the lowest with the new action
-    module _ (unknown : member known x ≡ false) {plan₀ : List ℕ} {found : ℕ → ℕ → Bool} {ws plan : List ℕ}
+    module _ (unknown : known x ≡ false) {plan₀ : List ℕ} {found : ℕ → ℕ → Bool} {ws plan : List ℕ}
         (h : Found places actions v n known plan₀ found ws plan) where
       joined : {ws′ plan′ : List ℕ} → ((y : ℕ) → (y ≡ x → ⊥) → member ws′ y ≡ member ws y) → member ws′ x ≡ true
           → ((y : ℕ) → (y / 4 ≡ x → ⊥) → getD plan′ y 0 ≡ getD plan y 0)
@@ -175,23 +175,22 @@ module _ {places actions v n : ℕ} {known : List ℕ} where
           off : (y : ℕ) → (y ≡ x → ⊥) → (b : ℕ) → found y b ≡ (only x a y b || found y b)
           off y d b = rw (ne-eqb y x d)
 
-          here : (y : ℕ) → y ≡ x → member ws′ y ≡ (ltb y places && some-below actions (λ b. only x a y b || found y b) || member known y)
+          here : (y : ℕ) → y ≡ x → member ws′ y ≡ (ltb y places && some-below actions (λ b. only x a y b || found y b) || known y)
           here y e = rw (e, ws-at, lt-ltb x places hx, eq-eqb x x refl, some-one (found x) actions a ha)
 
-          there : (y : ℕ) → (y ≡ x → ⊥) → member ws′ y ≡ (ltb y places && some-below actions (λ b. only x a y b || found y b) || member
-              known y)
+          there : (y : ℕ) → (y ≡ x → ⊥) → member ws′ y ≡ (ltb y places && some-below actions (λ b. only x a y b || found y b) || known y)
           there y d =
               ws-off y d ∙ h .members y
               ∙ rw (some-below-ext (found y) (λ b. only x a y b || found y b) actions (λ b l. off y d b))
 
           byte-here : (y : ℕ) → y / 4 ≡ x → getD plan′ y 0
-              ≡ cond (ltb (y / 4) places && (not (member known (y / 4)) && some-below actions (λ b. only x a (y / 4) b || found (y / 4) b)))
+              ≡ cond (ltb (y / 4) places && (not (known (y / 4)) && some-below actions (λ b. only x a (y / 4) b || found (y / 4) b)))
               (entry-byte (says v (lowest (λ b. only x a (y / 4) b || found (y / 4) b) actions) n) (y % 4)) (getD plan₀ y 0)
           byte-here y e =
               plan-at y e ∙ rw (e, lt-ltb x places hx, unknown, eq-eqb x x refl, some-one (found x) actions a ha)
 
           byte-there : (y : ℕ) → (y / 4 ≡ x → ⊥) → getD plan′ y 0
-              ≡ cond (ltb (y / 4) places && (not (member known (y / 4)) && some-below actions (λ b. only x a (y / 4) b || found (y / 4) b)))
+              ≡ cond (ltb (y / 4) places && (not (known (y / 4)) && some-below actions (λ b. only x a (y / 4) b || found (y / 4) b)))
               (entry-byte (says v (lowest (λ b. only x a (y / 4) b || found (y / 4) b) actions) n) (y % 4)) (getD plan₀ y 0)
           byte-there y d =
               plan-off y d ∙ h .bytes y
@@ -213,7 +212,7 @@ module _ {places actions v n : ℕ} {known : List ℕ} where
           let r : (4 * x + 1) % 4 ≡ 1 = omega arith in
           byte-found m (4 * x + 1) q ∙ rw r
 
-    module _ {ws plan : List ℕ} (unknown : member known x ≡ false) where
+    module _ {ws plan : List ℕ} (unknown : known x ≡ false) where
       -- it has joined with an action that is no higher
       pub only-kept : member ws x ≡ true → getD plan (4 * x + 1) 0 ≤ a → Noted places actions v n known (only x a) ws plan ws plan
       only-kept m l =

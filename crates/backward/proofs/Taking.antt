@@ -7,23 +7,22 @@ use mathlib.Core.Path.{_≡_, refl, sym, ap, _∙_}
 use native.Mathlib.Nat.{add-zero, mod-lt}
 use native.Mathlib.Omega.{arith}
 use borrow.Author.Tests.{lt-ltb, le-ltb, eq-eqb, ne-eqb}
-use lib.Arith.{digits-div, digits-lt}
+use lib.Arith.{digits-div}
 use lib.Dec.{eqb, ltb}
 use lib.ListN.{length, getD}
 use Rattle.rules.specs.Bytes.{said}
 use Rattle.rules.specs.Keeps.{Keeps}
-use Rattle.sets.specs.Sets.{set-words, set-room, member, one, count, Put}
+use Rattle.sets.specs.Sets.{one, count}
 use Rattle.rules.specs.Job.{Job, is-from, is-record, entered, entry-number}
-use Rattle.sets.proofs.Bits.{below-or, same-or}
-use Rattle.rules.proofs.Kept.{places-few}
-use Rattle.sets.proofs.Members.{put-more}
+use Rattle.sets.proofs.Bits.{same-or}
 use Rattle.sets.proofs.Sizes.{count-none}
 use Rattle.game.proofs.Tests.{eqb-iff}
-use Rattle.phases.specs.Wanted.{in-set}
-use Rattle.backward.specs.Counts.{counters-size, untaken}
-use Rattle.backward.specs.Step.{hit, Lowered, Taking, Taken}
+use Rattle.phases.specs.declared.phase.Phase.{Phase}
+use Rattle.backward.specs.Counts.{counters-size, untaken, Counts, Counted}
+use Rattle.backward.specs.Queue.{numbered}
+use Rattle.backward.specs.Step.{hit, Lowered, unsure}
 use Rattle.backward.proofs.Counting.{listed-count}
-use Rattle.backward.proofs.Filling.{put-members}
+use Rattle.backward.proofs.Lowering.{lowered-other}
 use Rattle.backward.proofs.Spots.{below-next, beyond-state}
 use Rattle.backward.proofs.Walking.{count-over}
 
@@ -56,13 +55,13 @@ module _ (j : Job) (t g : ℕ) where
 
   pub record Falling (q : ℕ) (before now : List ℕ) : Type 0 where
     pub as-long : length now ≡ length before
-    pub words : (y : ℕ) → getD now y 0 + fall q y ≡ getD before y 0
-
-  pub falling-none : {ws : List ℕ} → Falling 0 ws ws
-  falling-none {ws} = record { as-long = refl; words = λ y. rw (le-ltb (y / j .actions % j .goals) 0 zero-le) (add-zero (getD ws y 0)) }
+    pub words : (y : ℕ) → getD now y 0 ≡ getD before y 0 - fall q y
 
   abbrev goal-at : ℕ → ℕ
   goal-at y = y / j .actions % j .goals
+
+  pub falling-none : {ws : List ℕ} → Falling 0 ws ws
+  falling-none {ws} = record { as-long = refl; words = λ y. rw (le-ltb (goal-at y) 0 zero-le) (omega arith) }
 
   fall-other : (q y : ℕ) → (goal-at y ≡ q → ⊥) → fall (q + 1) y ≡ fall q y
   fall-other q y n = rw (below-next (goal-at y) q n)
@@ -78,10 +77,10 @@ module _ (j : Job) (t g : ℕ) where
           words = λ y. ⊎-elim (same y) (λ (n : goal-at y ≡ q → ⊥). rw (fall-other q y n) (r .words y)) (same-or (goal-at y) q);
         }
       where
-        same : (y : ℕ) → goal-at y ≡ q → getD now y 0 + fall (q + 1) y ≡ getD before y 0
+        same : (y : ℕ) → goal-at y ≡ q → getD now y 0 ≡ getD before y 0 - fall (q + 1) y
         same y e =
             let h : fall (q + 1) y ≡ 0 = rw (e, z, and-false (ltb q (q + 1))) in
-            rw h (ap (λ (n : ℕ). getD now y 0 + n) (sym (fall-here q y e)) ∙ r .words y)
+            omega (arith, h, fall-here q y e, r .words y)
 
     pub falling-more : {now′ : List ℕ} → into q ≡ true → Lowered j t q (j .records) now now′ → Falling (q + 1) before now′
     falling-more {now′} z x =
@@ -90,36 +89,20 @@ module _ (j : Job) (t g : ℕ) where
           words = λ y. ⊎-elim (same y) (other y) (same-or (goal-at y) q);
         }
       where
-        hits : (y : ℕ) → count (hit j t q y) (j .records) ≡ cond (eqb (goal-at y) q) (lead y) 0
-        hits y = count-and (eqb (goal-at y) q) (λ i. is-record (j .move i) (y / j .actions / j .goals) (y % j .actions) t) (j .records)
-
-        same : (y : ℕ) → goal-at y ≡ q → getD now′ y 0 + fall (q + 1) y ≡ getD before y 0
+        same : (y : ℕ) → goal-at y ≡ q → getD now′ y 0 ≡ getD before y 0 - fall (q + 1) y
         same y e =
             let h : fall (q + 1) y ≡ lead y = rw (e, z, lt-ltb q (q + 1) (omega arith)) in
-            let k : count (hit j t q y) (j .records) ≡ lead y = hits y ∙ rw (eq-eqb (goal-at y) q e) in
+            let k : count (hit j t q y) (j .records) ≡ lead y = count-and (eqb (goal-at y) q) (λ i. is-record (j .move i) (y / j .actions / j .goals) (y % j .actions) t)
+            (j .records) ∙ rw (eq-eqb (goal-at y) q e) in
             omega (arith, h, k, x .words y, r .words y, fall-here q y e)
 
-        other : (y : ℕ) → (goal-at y ≡ q → ⊥) → getD now′ y 0 + fall (q + 1) y ≡ getD before y 0
-        other y n =
-            let k : count (hit j t q y) (j .records) ≡ 0 = hits y ∙ rw (ne-eqb (goal-at y) q n) in
-            omega (arith, fall-other q y n, k, x .words y, r .words y)
-
-    -- there is enough to fall
-    pub falling-enough : ((y : ℕ) → into (goal-at y) ≡ true → lead y ≤ getD before y 0) → into q ≡ true
-        → (y : ℕ) → count (hit j t q y) (j .records) ≤ getD now y 0
-    falling-enough b z y =
-        rw (count-and (eqb (goal-at y) q) (λ i. is-record (j .move i) (y / j .actions / j .goals) (y % j .actions) t) (j .records))
-        (⊎-elim
-        (λ (e : goal-at y ≡ q). rw (eq-eqb (goal-at y) q e)
-        (omega (arith, b y (rw e z), r .words y, fall-here q y e)))
-        (λ (n : goal-at y ≡ q → ⊥). rw (ne-eqb (goal-at y) q n) zero-le)
-        (same-or (goal-at y) q))
+        other : (y : ℕ) → (goal-at y ≡ q → ⊥) → getD now′ y 0 ≡ getD before y 0 - fall (q + 1) y
+        other y n = lowered-other x y n ∙ r .words y ∙ rw (fall-other q y n)
 
 -- ---- what has not been taken, before and after
 
-module _ {b : List ℕ} (k : Keeps b) {t g : ℕ} {taken taken′ : List ℕ} (ht : t < said b .states) (hg : g < said b .goals)
-    (few : t * said b .goals + g < set-room) (new : member taken (t * said b .goals + g) ≡ false)
-    (p : Put taken (t * said b .goals + g) taken′) where
+module _ {b : List ℕ} (k : Keeps b) {t g : ℕ} (f f′ : ℕ → Bool) (ht : t < said b .states) (hg : g < said b .goals)
+    (new : f (t * said b .goals + g) ≡ false) (members : (x : ℕ) → f′ x ≡ (eqb x (t * said b .goals + g) || f x)) where
   abbrev job : Job
   job = said b
 
@@ -143,48 +126,38 @@ module _ {b : List ℕ} (k : Keeps b) {t g : ℕ} {taken taken′ : List ℕ} (h
       (λ e. n (sym (digits-div o (k .next-below q (job .label o) h (k .label-below o l))) ∙ ap (λ (x : ℕ). x / job .goals) e ∙ digits-div t
       hg))
 
-  members : (x : ℕ) → member taken′ x ≡ (eqb x here || member taken x)
-  members = put-members few p
-
   -- one record: it is counted after, or leads to the place, or neither
-  split : (f : Bool) (q o : ℕ) → q < job .goals → o < job .states
-      → one (f && not (member taken′ (out q o))) + one (into job t g q && (f && eqb o t)) ≡ one (f && not (member taken (out q o)))
-  split f q o h l = ⊎-elim same other (same-or o t)
+  split : (r : Bool) (q o : ℕ) → q < job .goals → o < job .states
+      → one (r && not (f′ (out q o))) + one (into job t g q && (r && eqb o t)) ≡ one (r && not (f (out q o)))
+  split r q o h l = ⊎-elim same other (same-or o t)
     where
-      at : (f i : Bool) → into job t g q ≡ i
-          → one (f && not (member taken′ (out q t))) + one (i && (f && true)) ≡ one (f && not (member taken (out q t)))
-      at f true z =
-          let e : out q t ≡ here = rw (eqb-true′ (entered job q t .goal) g z) in
-          rw (members (out q t), out-same q h, z, e, new) (go f)
+      at : (r i : Bool) → into job t g q ≡ i → one (r && not (f′ (out q t))) + one (i && (r && true)) ≡ one (r && not (f (out q t)))
+      at r true z =
+          let e : out q t ≡ here = rw (eqb-iff (entered job q t .goal) g .0 z) in
+          rw (members (out q t), out-same q h, z, e, new) (go r)
         where
-          go : (f : Bool) → one (f && false) + one (f && true) ≡ one (f && true)
+          go : (r : Bool) → one (r && false) + one (r && true) ≡ one (r && true)
           go true = refl
           go false = refl
+      at r false z = rw (members (out q t), out-same q h, z) (add-zero _)
 
-          eqb-true′ : (x y : ℕ) → eqb x y ≡ true → x ≡ y
-          eqb-true′ x y d = eqb-iff x y .0 d
-      at f false z = rw (members (out q t), out-same q h, z) (add-zero _)
+      same : o ≡ t → one (r && not (f′ (out q o))) + one (into job t g q && (r && eqb o t)) ≡ one (r && not (f (out q o)))
+      same e = rw (e, eq-eqb t t refl) (at r (into job t g q) refl)
 
-      same : o ≡ t → one (f && not (member taken′ (out q o))) + one (into job t g q && (f && eqb o t)) ≡ one
-          (f && not (member taken (out q o)))
-      same e = rw (e, eq-eqb t t refl) (at f (into job t g q) refl)
-
-      other : (o ≡ t → ⊥) → one (f && not (member taken′ (out q o))) + one (into job t g q && (f && eqb o t)) ≡ one
-          (f && not (member taken (out q o)))
-      other n = rw (members (out q o), out-other q o h l n, ne-eqb o t n, and-false f, and-false (into job t g q)) (add-zero _)
+      other : (o ≡ t → ⊥) → one (r && not (f′ (out q o))) + one (into job t g q && (r && eqb o t)) ≡ one (r && not (f (out q o)))
+      other n = rw (members (out q o), out-other q o h l n, ne-eqb o t n, and-false r, and-false (into job t g q)) (add-zero _)
 
   -- each counter falls by the records that lead to the place
-  pub untaken-fall : (y : ℕ) → untaken job (in-set (job .goals) taken′) y + cond (into job t g (y / job .actions % job .goals))
-      (lead job t g y) 0
-      ≡ untaken job (in-set (job .goals) taken) y
+  pub untaken-fall : (y : ℕ) → untaken job (numbered (job .goals) f′) y + cond (into job t g (y / job .actions % job .goals)) (lead job t g y) 0
+      ≡ untaken job (numbered (job .goals) f) y
   untaken-fall y =
       let s = y / job .actions / job .goals in
       let q = y / job .actions % job .goals in
       let a = y % job .actions in
       let i = into job t g q in
       rw (
-        listed-count job (λ x. not (in-set (job .goals) taken′ x)) s q a (job .records),
-        listed-count job (λ x. not (in-set (job .goals) taken x)) s q a (job .records),
+        listed-count job (λ x. not (numbered (job .goals) f′ x)) s q a (job .records),
+        listed-count job (λ x. not (numbered (job .goals) f x)) s q a (job .records),
         ← count-and i (λ m. is-record (job .move m) s a t) (job .records),
       )
       (count-sum _ _ _ (job .records)
@@ -206,41 +179,28 @@ cond-same : (c : Bool) (x : ℕ) → x ≡ 0 → cond c x 0 ≡ 0
 cond-same true x e = e
 cond-same false x e = refl
 
-module _ {b : List ℕ} (k : Keeps b) {t g : ℕ} {taken counters : List ℕ} (ht : t < said b .states) (hg : g < said b .goals)
-    (words : length taken ≡ set-words) (x : Taking (said b) (t * said b .goals + g) taken counters) where
-  few : t * said b .goals + g < set-room
-  few = omega (arith, digits-lt ht hg, places-few k)
+-- at all goal states: the place is taken, and the counters are the phase's
+pub taken-all : {b : List ℕ} (k : Keeps b) {t g : ℕ} (f f′ : ℕ → Bool) → t < said b .states → g < said b .goals
+    → f (t * said b .goals + g) ≡ false → ((x : ℕ) → f′ x ≡ (eqb x (t * said b .goals + g) || f x)) → {counters counters′ : List ℕ}
+    → (v : Phase) → Counts (said b) (unsure v (said b) (numbered (said b .goals) f)) counters
+    → Falling (said b) t g (said b .goals) counters counters′
+    → Counted (said b) (unsure v (said b) (numbered (said b .goals) f′)) counters counters′
+taken-all {b} k {t} {g} f f′ ht hg new members {counters} {counters′} v c r = record { as-long = r .as-long; counts = counts v c; rest = rest }
+  where
+    fell : (y : ℕ) → getD counters′ y 0
+        ≡ getD counters y 0 - cond (into (said b) t g (y / said b .actions % said b .goals)) (lead (said b) t g y) 0
+    fell y =
+        rw (lt-ltb (y / said b .actions % said b .goals) (said b .goals) (mod-lt (y / said b .actions) (k .some-goals))) at (r .words y)
 
-  -- each counter is at least what it is to fall by
-  pub taking-enough : (y : ℕ) → into (said b) t g (y / said b .actions % said b .goals) ≡ true → lead (said b) t g y ≤ getD counters y 0
-  taking-enough y z = ⊎-elim below beyond (below-or y (counters-size (said b)))
-    where
-      below : y < counters-size (said b) → lead (said b) t g y ≤ getD counters y 0
-      below h =
-          let c = x .counted .counts y h in
-          let u = rw z at (untaken-fall k ht hg few (x .new) (put-more taken (t * said b .goals + g) words few) y) in
-          omega (arith, c, u)
+    counts : (v : Phase) → Counts (said b) (unsure v (said b) (numbered (said b .goals) f)) counters
+        → (y : ℕ) → y < counters-size (said b) → getD counters′ y 0 ≡ unsure v (said b) (numbered (said b .goals) f′) y
+    counts Phase.Winning c y h = omega (arith, fell y, c .counts y h, untaken-fall k f f′ ht hg new members y)
+    counts Phase.Pending c y h = omega (arith, fell y, c .counts y h)
 
-      beyond : counters-size (said b) ≤ y → lead (said b) t g y ≤ getD counters y 0
-      beyond h = omega (arith, lead-beyond k t g y h)
-
-  -- at all goal states: the place is taken
-  pub taken-all : {taken′ counters′ : List ℕ} → Falling (said b) t g (said b .goals) counters counters′
-      → Put taken (t * said b .goals + g) taken′ → Taken (said b) (t * said b .goals + g) taken counters taken′ counters′
-  taken-all {taken′} {counters′} r p = record { takes = p; counted = record { as-long = r .as-long; counts = counts; rest = rest } }
-    where
-      fell : (y : ℕ) → getD counters′ y 0 + cond (into (said b) t g (y / said b .actions % said b .goals)) (lead (said b) t g y) 0
-          ≡ getD counters y 0
-      fell y =
-          rw (lt-ltb (y / said b .actions % said b .goals) (said b .goals) (mod-lt (y / said b .actions) (k .some-goals))) at (r .words y)
-
-      counts : (y : ℕ) → y < counters-size (said b) → getD counters′ y 0 ≡ untaken (said b) (in-set (said b .goals) taken′) y
-      counts y h = omega (arith, fell y, x .counted .counts y h, untaken-fall k ht hg few (x .new) p y)
-
-      rest : (y : ℕ) → counters-size (said b) ≤ y → getD counters′ y 0 ≡ getD counters y 0
-      rest y h =
-          omega (
-            arith,
-            fell y,
-            cond-same (into (said b) t g (y / said b .actions % said b .goals)) (lead (said b) t g y) (lead-beyond k t g y h),
-          )
+    rest : (y : ℕ) → counters-size (said b) ≤ y → getD counters′ y 0 ≡ getD counters y 0
+    rest y h =
+        omega (
+          arith,
+          fell y,
+          cond-same (into (said b) t g (y / said b .actions % said b .goals)) (lead (said b) t g y) (lead-beyond k t g y h),
+        )

@@ -32,11 +32,6 @@ count-over f k h l n =
     le-ind (λ i. i ≤ h → count f i ≡ count f k) (λ g. refl)
     (λ i m e g. sym (ap (count f) (add-one i)) ∙ count-next f i ∙ rw (n i m g) (add-zero (count f i) ∙ e (omega arith))) h l (omega arith)
 
-pub count-mono : (f : ℕ → Bool) (k n : ℕ) → k ≤ n → count f k ≤ count f n
-count-mono f k n h =
-    le-ind (λ i. count f k ≤ count f i) (omega arith)
-    (λ i m e. omega (arith, e, count-next f i, ap (count f) (add-one i))) n h
-
 pub some-over : (f : ℕ → Bool) (k h : ℕ) → k ≤ h → ((i : ℕ) → k ≤ i → i < h → f i ≡ false) → some-below h f ≡ some-below k f
 some-over f k h l n =
     le-ind (λ i. i ≤ h → some-below i f ≡ some-below k f) (λ g. refl)

@@ -5,34 +5,32 @@ use mathlib.Core.List.{List}
 use mathlib.Core.Path.{_≡_}
 use lib.ListN.{length}
 use Rattle.rules.specs.Bytes.{said}
-use Rattle.sets.specs.Sets.{set-words, member}
+use Rattle.sets.specs.Sets.{member}
 use Rattle.rules.specs.Job.{places}
-use Rattle.sets.specs.declared.places.PlaceSet.{PlaceSet}
 use Rattle.job.specs.Layout.{Fit}
 use Rattle.job.specs.declared.layout.Layout.{Layout}
 use Rattle.phases.specs.declared.phase.Phase.{Phase}
 use Rattle.phases.specs.Wanted.{in-set}
 use Rattle.phases.specs.Rounds.{Settles, Labelled}
 use Rattle.backward.specs.Words.{Filled}
-use Rattle.backward.specs.Index.{Lists, Indexed}
+use Rattle.backward.specs.Index.{Indexed}
 use Rattle.backward.specs.Counts.{counters-size, Counts, Counted}
-use Rattle.backward.specs.Layer.{unsure}
+use Rattle.backward.specs.Queue.{Queue}
+use Rattle.backward.specs.Step.{unsure, WalkReady}
 
--- what the layers of a phase rely on: no place is taken yet
-pub record LayersReady (b : List ℕ) (l : Layout) (index : List ℕ) (v : Phase) (known plan counters : List ℕ) : Type 0 where
-  pub fit : Fit b l
-  pub lists : Lists (said b) index
-  pub room : 4 * (l .states * l .goals) ≤ length plan
-  pub words : length known ≡ set-words
-  pub inside : (x : ℕ) → member known x ≡ true → x < places (said b)
+-- what the layers of a phase rely on: the places of the set are in the queue, and none of them is taken yet
+pub record LayersReady (b : List ℕ) (l : Layout) (index : List ℕ) (v : Phase) (tail : ℕ) (new plan counters queue : List ℕ) : Type 0 where
+  pub ready : WalkReady b l index tail new plan counters queue
+  pub inside : (x : ℕ) → member new x ≡ true → x < places (said b)
   pub counted : Counts (said b) (unsure v (said b) (λ p. false)) counters
 
--- what they leave: rounds of the phase have settled, and the counters are those of the places taken
-pub record LayersDone (b : List ℕ) (v : Phase) (known plan counters : List ℕ) (r : PlaceSet) (plan′ counters′ : List ℕ) : Type 0 where
+-- what they leave: rounds of the phase have settled, all of their places are in the queue, and the counters are those with all of them taken
+pub record LayersDone (b : List ℕ) (v : Phase) (new plan counters new′ plan′ counters′ queue′ : List ℕ) (tail′ : ℕ) : Type 0 where
+  pub as-many : length new′ ≡ length new
   pub as-long : length plan′ ≡ length plan
-  pub settles : Settles (said b) v known plan (r .words) plan′
-  pub taken : List ℕ
-  pub counted : Counted (said b) (unsure v (said b) (in-set (said b .goals) taken)) counters counters′
+  pub settles : Settles (said b) v new plan new′ plan′
+  pub queue-of : Queue (member new′) queue′ tail′
+  pub counted : Counted (said b) (unsure v (said b) (in-set (said b .goals) new′)) counters counters′
 
 -- what labelling every place relies on: room for the plan, the index and the counters
 pub record Ready (b : List ℕ) (l : Layout) (plan index counters : List ℕ) : Type 0 where

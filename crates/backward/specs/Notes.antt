@@ -12,14 +12,14 @@ use Rattle.rules.specs.Job.{Job, is-record, entered, recorded}
 use Rattle.rules.specs.Plan.{entry-byte}
 use Rattle.game.proofs.Search.{lowest}
 
--- places and actions are counted, v and n are the value and the number of the places that join, and `known` are those known before
-module _ (places actions v n : ℕ) (known : List ℕ) where
+-- places and actions are counted, v and n are the value and the number of the places that join, and `known` tells those known before
+module _ (places actions v n : ℕ) (known : ℕ → Bool) where
   -- Actions have been found for places, `found x a` telling which. The set has the known places and those with an action found. The entry
   -- of each that was not known names the lowest action found, and every other byte of the plan is as at first.
   pub record Found (plan₀ : List ℕ) (found : ℕ → ℕ → Bool) (ws plan : List ℕ) : Type 0 where
-    pub members : (x : ℕ) → member ws x ≡ (ltb x places && some-below actions (found x) || member known x)
+    pub members : (x : ℕ) → member ws x ≡ (ltb x places && some-below actions (found x) || known x)
     pub bytes : (y : ℕ) → getD plan y 0
-        ≡ cond (ltb (y / 4) places && (not (member known (y / 4)) && some-below actions (found (y / 4))))
+        ≡ cond (ltb (y / 4) places && (not (known (y / 4)) && some-below actions (found (y / 4))))
         (entry-byte (says v (lowest (found (y / 4)) actions) n) (y % 4)) (getD plan₀ y 0)
 
   -- whatever had been found, more is found after

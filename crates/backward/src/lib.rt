@@ -5,5 +5,6 @@ mod layer;
 mod layers;
 mod note;
 pub mod plan;
+mod queue;
 mod step;
 mod words;

@@ -38,47 +38,57 @@ fn each_before<R: Record>(job: &Job<R>, index: &[u16], place: usize, mut name: i
     }
 }
 
-/// Layers until one adds nothing: the places of the set that are not taken yet are taken, and others join with this value.
+/// The places of a set in the order in which they joined.
+struct Queue {
+    places: [u16; PLACES],
+    end: usize,
+}
+
+impl Queue {
+    fn push(&mut self, place: usize) {
+        self.places[self.end] = place as u16;
+        self.end += 1;
+    }
+}
+
+/// Layers until one adds nothing: the places of the queue that are not taken yet are taken, and others join with this value. A counter that
+/// is 0 stays so: where one outcome is enough, all of them are.
 fn layers<R: Record>(
     job: &Job<R>,
     plan: &mut [[u8; 4]],
     index: &[u16],
     counters: &mut [u16],
     set: &mut Set,
+    queue: &mut Queue,
     value: u8,
 ) {
-    let mut taken = Set { words: [0; PLACES / 64], used: set.used };
-    let mut few = set.size();
+    let mut known = Set { words: [0; PLACES / 64], used: set.used };
+    let (mut from, mut to) = (0, queue.end);
     for number in 1_u16.. {
-        let known = *set;
-        let [low, high] = number.to_le_bytes();
-        for word in 0..known.used {
-            let mut due = known.words[word] & !taken.words[word];
-            while due != 0 {
-                let place = 64 * word + due.trailing_zeros() as usize;
-                due &= due - 1;
-                if value == 2 {
-                    each_before(job, index, place, |before, action| {
-                        counters[before * job.actions + usize::from(action)] -= 1;
-                    });
-                }
-                each_before(job, index, place, |before, action| {
-                    if counters[before * job.actions + usize::from(action)] != 0 || known.has(before) {
-                        return;
-                    }
-                    if !set.has(before) || action < plan[before][1] {
-                        set.add(before);
-                        plan[before] = [value, action, low, high];
-                    }
-                });
-            }
+        for &place in &queue.places[from..to] {
+            known.add(place.into());
         }
-        taken = known;
-        let more = set.size();
-        if more == few {
+        let [low, high] = number.to_le_bytes();
+        for head in from..to {
+            each_before(job, index, queue.places[head].into(), |before, action| {
+                let counter = &mut counters[before * job.actions + usize::from(action)];
+                *counter = counter.saturating_sub(1);
+                if *counter != 0 || known.has(before) {
+                    return;
+                }
+                if !set.has(before) {
+                    set.add(before);
+                    queue.push(before);
+                } else if plan[before][1] <= action {
+                    return;
+                }
+                plan[before] = [value, action, low, high];
+            });
+        }
+        if queue.end == to {
             return;
         }
-        few = more;
+        (from, to) = (to, queue.end);
     }
 }
 
@@ -88,15 +98,17 @@ pub fn plan<R: Record>(job: &Job<R>, plan: &mut [[u8; 4]], index: &mut [u16], co
     build(job, index);
     count(job, counters);
     let mut set = Set { words: [0; PLACES / 64], used: job.places().div_ceil(64) };
+    let mut queue = Queue { places: [0; PLACES], end: 0 };
     for (place, entry) in plan.iter_mut().enumerate() {
         let accepted = job.accepted(place);
         *entry = if accepted { [2, 255, 0, 0] } else { [0, 255, 0, 0] };
         if accepted {
             set.add(place);
+            queue.push(place);
         }
     }
-    layers(job, plan, index, counters, &mut set, 2);
+    layers(job, plan, index, counters, &mut set, &mut queue, 2);
     counters.fill(0);
-    layers(job, plan, index, counters, &mut set, 1);
+    layers(job, plan, index, counters, &mut set, &mut queue, 1);
     Ok(())
 }
