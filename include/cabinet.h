@@ -25,7 +25,7 @@
    The library needs no heap, keeps nothing between calls, and takes every input: what is bad is refused by number, the first fault
    first. A refusal changes nothing in a buffer that you lend.
 
-   On the stack planning takes up to 20 KiB, planning with an index 16 KiB, the check of a plan 88 KiB, and every other call less than 1 KiB, whatever the job.
+   On the stack planning takes up to 20 KiB, planning with an index 44 KiB, the check of a plan 88 KiB, and every other call less than 1 KiB, whatever the job.
 
    What you owe: a pointer and its length describe memory of yours that holds that many bytes, or words of two bytes in an index and counters, for as long as the call runs; a length of
    0 wants a pointer that is not null all the same; the buffers of a call do not overlap; and nothing else writes to them during a call.
@@ -130,7 +130,7 @@ typedef struct {
 cabinet_planned cabinet_plan(const uint8_t *job, size_t job_len, uint8_t *plan, size_t plan_len);
 
 /* The same answer and the same plan, byte for byte, by a second engine, which works backward from where the goal is met with an index of the
-   records that lead to each state. It looks at each record at most 4 * Q times beside reading and indexing it, whatever the numbers, where `cabinet_plan` looks at each up to Q times a
+   records that lead to each state. It looks at each record at most 3 * Q times beside reading and indexing it, whatever the numbers, where `cabinet_plan` looks at each up to Q times a
    round: take it where numbers are large. It needs two buffers more, lengths in words of two bytes: CABINET_INDEX_WORDS(S, records) and
    CABINET_COUNTERS_WORDS(S, Q, A). What they hold before does not matter. On success the index lists each record once: word t, below S, is the first
    record that leads to state t, word S + k the next after record k that leads where k does, and the count of records stands for none; the used
