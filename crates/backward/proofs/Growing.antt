@@ -12,7 +12,7 @@ use lib.ListN.{getD}
 use Rattle.rules.specs.Bytes.{said}
 use Rattle.rules.specs.Keeps.{Keeps}
 use Rattle.game.specs.Game.{Listed}
-use Rattle.rules.specs.Job.{Job, place, places, entered, entry-number, recorded, arena}
+use Rattle.rules.specs.Job.{Job, place, entered, entry-number, recorded, arena}
 use Rattle.rules.specs.declared.place.Place.{Place}
 use Rattle.rules.proofs.Arenas.{leads-iff, is-record-iff, recorded-iff}
 use Rattle.game.proofs.Lists.{how-many, every, sure, some-ext, sure-ext, sure-at, sure-true, some-true, every-at, every-true}

@@ -12,24 +12,9 @@ use Rattle.rules.specs.Job.{Job}
 use Rattle.sets.specs.Sets.{one, count}
 use Rattle.sets.proofs.Bits.{below-or, same-or}
 use Rattle.sets.proofs.Sizes.{count-add, count-ext, count-none}
-use Rattle.game.proofs.Tests.{last-or-below}
 use Rattle.backward.specs.Index.{next-into, index-size, Indexed}
 use Rattle.backward.proofs.Listing.{next-none, next-here, next-over}
-use Rattle.backward.proofs.Walking.{count-over}
-
--- two tests that differ at o alone
-differ : (f g : ℕ → Bool) (o n : ℕ) → o < n → ((i : ℕ) → (i ≡ o → ⊥) → f i ≡ g i) → count f n + one (g o) ≡ count g n + one (f o)
-unfolding count
-differ f g o zero h same = absurd (omega arith)
-differ f g o (suc n) h same = ⊎-elim last (λ (l : o < n). before l (differ f g o n l same)) (last-or-below h)
-  where
-    last : o ≡ n → count f n + one (f n) + one (g o) ≡ count g n + one (g n) + one (f o)
-    last e =
-        let c : count f n ≡ count g n = count-ext f g n (λ i l. same i (λ d. omega arith)) in
-        rw (e, c) (omega arith)
-
-    before : o < n → count f n + one (g o) ≡ count g n + one (f o) → count f n + one (f n) + one (g o) ≡ count g n + one (g n) + one (f o)
-    before l r = rw (same n (λ d. omega arith)) (omega arith)
+use Rattle.backward.proofs.Walking.{count-over, count-differ}
 
 module _ (j : Job) (v : ℕ) where
   -- how often v is the first record from k on of a state, and how often it is the next after a record from k on
@@ -57,11 +42,11 @@ module _ (j : Job) (v : ℕ) where
     held-step k h =
         let o = j .move k .outcome in
         let x : firsts-of k + one (after-is k) ≡ firsts-of (k + 1) + one (eqb (next-into j o k) v) =
-        differ (λ t. eqb (next-into j t k) v) (λ t. eqb (next-into j t (k + 1)) v) o (j .states) (outcomes k h)
+        count-differ (λ t. eqb (next-into j t k) v) (λ t. eqb (next-into j t (k + 1)) v) o (j .states) (outcomes k h)
         (λ t n. rw (next-over j t k (λ e. n (sym e)))) in
         let z : one (eqb (next-into j o k) v) ≡ one (eqb k v) = rw (next-here j o k h refl) in
         let y : afters-of (k + 1) + one (leb k k && after-is k) ≡ afters-of k + one (leb (k + 1) k && after-is k) =
-        differ (λ i. leb (k + 1) i && after-is i) (λ i. leb k i && after-is i) k (j .records) h
+        count-differ (λ i. leb (k + 1) i && after-is i) (λ i. leb k i && after-is i) k (j .records) h
         (λ i n. ap (λ (b : Bool). b && after-is i) (apart i n)) in
         let y′ : afters-of (k + 1) + one (after-is k) ≡ afters-of k + 0 =
         rw (le-leb k k (omega arith), lt-leb (k + 1) k (omega arith)) at y in

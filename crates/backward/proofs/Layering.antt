@@ -20,14 +20,14 @@ use Rattle.rules.specs.Plan.{entry-byte}
 use Rattle.sets.proofs.Bits.{below-or}
 use Rattle.rules.proofs.Rows.{row-of}
 use Rattle.game.proofs.Search.{lowest, either}
-use Rattle.job.specs.Layout.{Fit, layout}
+use Rattle.job.specs.Layout.{layout}
 use Rattle.job.specs.declared.layout.Layout.{Layout}
 use Rattle.phases.specs.declared.phase.Phase.{Phase}
 use Rattle.phases.specs.Wanted.{phase-value}
 use Rattle.phases.specs.Round.{Passed}
 use Rattle.phases.proofs.Passes.{between-zero}
 use Rattle.backward.specs.Counts.{Counted}
-use Rattle.backward.specs.Queue.{queued, numbered, Queue, Joined}
+use Rattle.backward.specs.Queue.{queued, numbered, Joined}
 use Rattle.backward.specs.Notes.{Found}
 use Rattle.backward.specs.Step.{unsure, Taking, Taken}
 use Rattle.backward.specs.Layer.{looked, Between, LayerReady, Layered}

@@ -11,7 +11,7 @@ use lib.ListN.{getD}
 use Rattle.sets.specs.Sets.{set-room, member, Put}
 use Rattle.game.specs.Game.{says}
 use Rattle.game.specs.Below.{some-below}
-use Rattle.rules.specs.Plan.{entry, entry-byte, Wrote}
+use Rattle.rules.specs.Plan.{entry-byte, Wrote}
 use Rattle.game.specs.declared.entry.Entry.{Entry}
 use Rattle.sets.proofs.Bits.{below-or, same-or}
 use Rattle.game.proofs.Search.{lowest, lowest-at, lowest-ext, least-unique, clash, if-not-true, either}

@@ -26,12 +26,12 @@ use Rattle.phases.specs.Pass.{place-at}
 use Rattle.phases.specs.Round.{Passed}
 use Rattle.phases.proofs.Passes.{between-zero}
 use Rattle.phases.proofs.Settling.{Going, going-none, going-more, going-stop}
-use Rattle.backward.specs.Counts.{counters-size, Counts, Counted}
+use Rattle.backward.specs.Counts.{Counted}
 use Rattle.backward.specs.Queue.{queued, numbered, Queue}
-use Rattle.backward.specs.Step.{unsure, WalkReady}
+use Rattle.backward.specs.Step.{unsure}
 use Rattle.backward.specs.Layer.{looked, Between, LayerReady, Layered}
 use Rattle.backward.specs.Layers.{LayersReady, LayersDone}
-use Rattle.backward.proofs.Counting.{counted-then, counts-of, counters-said}
+use Rattle.backward.proofs.Counting.{counted-then, counts-of}
 use Rattle.backward.proofs.Queuing.{joined-same}
 
 -- with no place taken, a phase looks for no action

@@ -1,9 +1,9 @@
 -- The laws of the queue: what it holds up to a number, a place that joins, and one after the other.
-use Prim.Native.Nat.{ℕ, zero, suc, _+_, _*_, _/_, _%_, _≤_, _<_}
+use Prim.Native.Nat.{ℕ, _+_, _*_, _/_, _%_, _≤_, _<_, zero-le}
 use mathlib.Core.Bool.{Bool, true, false, _&&_, _||_, or-comm}
 use mathlib.Core.List.{List}
 use mathlib.Core.Logic.{⊎-elim}
-use mathlib.Core.Path.{_≡_, refl, sym, ap, _∙_, subst, fun-ext}
+use mathlib.Core.Path.{_≡_, refl, sym, _∙_, subst, fun-ext}
 use native.Mathlib.Nat.{div-add-mod'}
 use native.Mathlib.Numerals.{add-one}
 use native.Mathlib.Omega.{arith}
@@ -11,15 +11,14 @@ use borrow.Author.Tests.{eq-eqb, ne-eqb, lt-ltb, le-ltb}
 use lib.Dec.{eqb, ltb}
 use lib.ListN.{length, getD, set, length-set}
 use lib.Seq.{getD-set-same, getD-set-other}
-use Rattle.sets.specs.Sets.{set-room, member, one, count, Put}
-use Rattle.game.specs.Below.{some-below}
+use Rattle.sets.specs.Sets.{set-room, member, count, Put}
 use Rattle.sets.proofs.Bits.{below-or, same-or}
-use Rattle.sets.proofs.Sizes.{count-le, count-ext, count-none}
-use Rattle.game.proofs.Search.{clash, if-not-true, either}
-use Rattle.game.proofs.Tests.{eqb-iff, some-stops, some-below-ext}
+use Rattle.sets.proofs.Sizes.{count-le, count-none}
+use Rattle.game.proofs.Tests.{some-stops, some-below-ext}
 use Rattle.backward.specs.Queue.{queued, Queue, Joined}
 use Rattle.backward.proofs.Filling.{put-members}
 use Rattle.backward.proofs.Spots.{below-next}
+use Rattle.backward.proofs.Walking.{count-over, count-differ}
 
 eqb-sym : (x y : ℕ) → eqb x y ≡ eqb y x
 eqb-sym x y =
@@ -48,19 +47,10 @@ queued-at queue n i h = some-stops (λ m. eqb (getD queue m 0) (getD queue i 0))
 
 -- one number more passes a test
 count-joined : (f g : ℕ → Bool) (x : ℕ) → f x ≡ false → ((y : ℕ) → g y ≡ (eqb y x || f y)) → (n : ℕ) → x < n → count g n ≡ count f n + 1
-unfolding count
-count-joined f g x out h zero l = absurd (omega arith)
-count-joined f g x out h (suc n) l =
-    ⊎-elim
-    (λ (e : n ≡ x).
-    let same : count g n ≡ count f n = count-ext g f n (λ y m. h y ∙ rw (ne-eqb y x (omega arith))) in
-    let here : g n ≡ true = h n ∙ rw (eq-eqb n x e) in
-    let none : f n ≡ false = rw e out in
-    rw (here, none) (omega (arith, same)))
-    (λ (d : n ≡ x → ⊥).
-    let same : g n ≡ f n = h n ∙ rw (ne-eqb n x d) in
-    rw same (omega (arith, count-joined f g x out h n (omega arith))))
-    (same-or n x)
+count-joined f g x out h n l =
+    let here : g x ≡ true = h x ∙ rw (eq-eqb x x refl) in
+    let one-more = rw (here, out) at (count-differ f g x n l (λ y d. sym (h y ∙ rw (ne-eqb y x d)))) in
+    omega (arith, one-more)
 
 -- the same places
 pub queue-ext : {f g : ℕ → Bool} {queue : List ℕ} {tail : ℕ} → ((x : ℕ) → f x ≡ g x) → Queue f queue tail → Queue g queue tail
@@ -151,16 +141,12 @@ module _ {queue new′ queue′ : List ℕ} {tail tail′ : ℕ} (r : Joined que
 abbrev pub first-of : List ℕ → ℕ → ℕ → Bool
 first-of ws n x = ltb x n && member ws x
 
-first-none : (ws : List ℕ) (n : ℕ) → count (first-of ws 0) n ≡ 0
-unfolding count
-first-none ws zero = refl
-first-none ws (suc n) = rw (le-ltb n 0 (omega arith)) (omega (arith, first-none ws n))
-
 pub gather-none : (ws : List ℕ) {queue : List ℕ} → length queue ≡ set-room → Queue (first-of ws 0) queue 0
 gather-none ws long =
     record {
       long = long;
-      many = sym (first-none ws set-room);
+      many =
+          sym (count-over (first-of ws 0) 0 set-room zero-le (λ i h l. rw (le-ltb i 0 (omega arith))) ∙ count-none (first-of ws 0));
       inside = λ i l. absurd (omega arith);
       once = λ i l. absurd (omega arith);
       members = λ x. rw (le-ltb x 0 (omega arith));

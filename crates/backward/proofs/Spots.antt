@@ -7,7 +7,6 @@ use native.Mathlib.Omega.{arith}
 use borrow.Author.Tests.{lt-ltb, le-ltb}
 use lib.Arith.{digits-lt, digits-div, digits-mod}
 use lib.Dec.{ltb}
-use Rattle.rules.specs.Job.{places}
 use Rattle.sets.proofs.Bits.{below-or}
 
 module _ (goals actions : ℕ) where

@@ -3,20 +3,17 @@ use Prim.Native.Nat.{ℕ, _*_, _≤_, _<_}
 use mathlib.Core.Bool.{Bool, true, false}
 use mathlib.Core.List.{List}
 use mathlib.Core.Path.{_≡_}
-use lib.ListN.{length}
 use Rattle.rules.specs.Bytes.{said}
-use Rattle.sets.specs.Sets.{set-words, member}
+use Rattle.sets.specs.Sets.{member}
 use Rattle.game.specs.Below.{some-below}
 use Rattle.rules.specs.Job.{Job, places, arena}
-use Rattle.job.specs.Layout.{Fit}
 use Rattle.job.specs.declared.layout.Layout.{Layout}
 use Rattle.phases.specs.declared.phase.Phase.{Phase}
 use Rattle.phases.specs.Wanted.{wanted}
 use Rattle.phases.specs.Pass.{place-at}
 use Rattle.phases.specs.Round.{Passed}
-use Rattle.backward.specs.Index.{Lists}
 use Rattle.backward.specs.Counts.{Counts, Counted}
-use Rattle.backward.specs.Queue.{queued, numbered, Queue, Joined}
+use Rattle.backward.specs.Queue.{queued, numbered, Joined}
 use Rattle.backward.specs.Step.{unsure, WalkReady}
 
 -- the actions that a phase looks for, by a test of the places that are taken

@@ -1,5 +1,4 @@
 // A layer: every place that is known and not taken yet is taken, and the places that may lead to it join.
-ghost use Prim.Native.Nat.{_≤_};
 ghost use Rattle.backward.specs.Layer.{LayerReady, Layered};
 use job::layout::Layout;
 use phases::phase::Phase;

@@ -1,10 +1,4 @@
 // Layers of a phase until one adds nothing, and both phases.
-ghost use mathlib.Core.Path.{_≡_};
-ghost use mathlib.Core.Bool.{false};
-ghost use Prim.Native.Nat.{_+_, _*_, _≤_};
-ghost use lib.ListN.{length};
-ghost use Rattle.rules.specs.Bytes.{said};
-ghost use Rattle.job.specs.Layout.{Fit};
 ghost use Rattle.backward.specs.Layers.{LayersReady, LayersDone, Ready, Planned};
 use job::layout::Layout;
 use phases::phase::Phase;

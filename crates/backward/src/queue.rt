@@ -1,7 +1,7 @@
 // The queue: the places that have joined a set, in the order in which they joined. Each is taken from it once.
 ghost use mathlib.Core.Path.{_≡_};
-ghost use mathlib.Core.Bool.{true, false};
-ghost use Prim.Native.Nat.{ℕ, _+_, _≤_, _<_};
+ghost use mathlib.Core.Bool.{false};
+ghost use Prim.Native.Nat.{ℕ, _≤_, _<_};
 ghost use lib.ListN.{length, getD};
 ghost use Rattle.sets.specs.Sets.{set-words, set-room, member};
 ghost use Rattle.backward.specs.Queue.{queued, Queue};

@@ -1,7 +1,6 @@
 // The step: one place is taken, the counters of the places and actions that may lead to it fall, and the places with a counter that is
 // then 0 join. Each record that leads to the place is looked at once for each goal state from which the place is entered.
-ghost use mathlib.Core.Path.{_≡_};
-ghost use Prim.Native.Nat.{ℕ, _+_, _*_, _≤_, _<_};
+ghost use Prim.Native.Nat.{_<_};
 ghost use lib.ListN.{length};
 ghost use Rattle.rules.specs.Bytes.{said};
 ghost use Rattle.sets.specs.Sets.{member};

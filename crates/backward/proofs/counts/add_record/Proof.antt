@@ -7,7 +7,7 @@ use lib.ListN.{length, getD}
 use Rattle.rules.specs.Bytes.{said}
 use Rattle.sets.proofs.Sizes.{count-le}
 use Rattle.job.proofs.Asking.{records-said, states-said, goals-said, actions-said, few-places}
-use Rattle.job.proofs.Asking.{few-records, state-below, action-below, some-goals, some-actions}
+use Rattle.job.proofs.Asking.{few-records, state-below, action-below}
 use Rattle.backward.specs.Counts.{from-at, counters-size}
 use Rattle.backward.proofs.Counting.{Added, added-none, added-more, added-all, added-few}
 use Rattle.backward.proofs.Spots.{spot-below}

@@ -1,6 +1,5 @@
 -- `layer` meets its contract: each turn takes the next place of the queue.
 use Prim.Native.Nat.{_≤_, _-_}
-use mathlib.Core.Path.{_≡_}
 use native.Mathlib.Omega.{arith}
 use borrow.Author.Needs.{needs}
 use Rattle.rules.specs.Bytes.{said}

@@ -1,6 +1,5 @@
 -- `gather` meets its contract: the places of the set below x are the queue.
 use Prim.Native.Nat.{_≤_, _<_, _-_}
-use mathlib.Core.Path.{_≡_}
 use native.Mathlib.Omega.{arith}
 use borrow.Author.Needs.{needs}
 use Rattle.sets.specs.Sets.{set-room}
