@@ -62,16 +62,16 @@ abbrev pub unsure : Phase → Job → (Place → Bool) → ℕ → ℕ
 unsure Phase.Winning j taken y = untaken j taken y
 unsure Phase.Pending j taken y = 0
 
--- before the step: the place at `head` of the queue is to be taken, those before it are taken, and each counter is the count of that place
--- and action's listed outcomes whose places have not been taken
+-- before the step: the place at `head` of the queue is to be taken, those before it are taken, and the counters are the phase's: where winning
+-- places are looked for, each is the count of that place and action's listed outcomes whose places have not been taken
 pub record Taking (b : List ℕ) (l : Layout) (index : List ℕ) (v : Phase) (head tail : ℕ) (new plan counters queue : List ℕ) : Type 0 where
   pub ready : WalkReady b l index tail new plan counters queue
   pub due : head < tail
   pub a-place : getD queue head 0 < places (said b)
   pub counted : Counts (said b) (unsure v (said b) (numbered (said b .goals) (queued queue head))) counters
 
--- after it: the place is taken too, each counter then is the count of that place and action's listed outcomes whose places have not been
--- taken, what lies beyond the counters is as before, and each action that may lead to the place and whose counter is 0 is found
+-- after it: the place is taken too, the counters then are the phase's again, with the place among those taken, what lies beyond the counters is
+-- as before, and each action that may lead to the place and whose counter is 0 is found
 pub record Taken (j : Job) (v : Phase) (n head : ℕ) (known : ℕ → Bool) (new plan counters queue : List ℕ) (tail : ℕ)
     (new′ plan′ counters′ queue′ : List ℕ) (tail′ : ℕ) : Type 0 where
   pub counted : Counted j (unsure v j (numbered (j .goals) (queued queue′ (head + 1)))) counters counters′
