@@ -114,7 +114,7 @@ impl Place {
             goal: q as u16,
         };
         let e = rules::entry::read_entry(plan, p.entry_number(l.goals as u16));
-        match rules::entry::shape_of(e, l.actions, places as u16) {
+        match rules::entry::shape_of(e, l.actions, places) {
             Shape::Nothing => Advised::Refused(Refusal::Entry),
             Shape::Of(value) => Advised::Says {
                 value,

@@ -33,6 +33,7 @@ checked-back (Checked.Refused Refusal.Outcome) = refl
 checked-back (Checked.Refused Refusal.NoClauses) = refl
 checked-back (Checked.Refused Refusal.Clause) = refl
 checked-back (Checked.Refused Refusal.Memory) = refl
+checked-back (Checked.Refused Refusal.Slips) = refl
 
 pub checked-known : (r s : Checked) → checked-figures r ≡ checked-figures s → r ≡ s
 checked-known = known-by checked-figures checked-of checked-back

@@ -3,4 +3,4 @@ pub mod plan;
 pub mod range;
 mod round;
 mod rounds;
-mod scan;
+pub mod scan;

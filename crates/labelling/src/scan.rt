@@ -31,7 +31,7 @@ fn is_inside(job: &[u8], l: Layout, words: &[u64; WORDS], q: usize, t: usize) ->
 }
 
 // The tally with one record more: its action is open, and held or spoilt by its outcome.
-fn add_record(x: Tally, action: u8, inside: bool) -> Tally
+pub fn add_record(x: Tally, action: u8, inside: bool) -> Tally
     ensures { λ r. ⌜ Tallied x action inside r ⌝ }
 {
     let opens = x.opens.with(action);

@@ -125,11 +125,11 @@ holds-itself j {ws} {plan} words small none =
 -- ---- one round more
 
 -- a place is of the old ones or new, and its entry is the old one or the new one
-joined : (r c : Bool) → (not r && c || r) ≡ (r || c)
+pub joined : (r c : Bool) → (not r && c || r) ≡ (r || c)
 joined true c = refl
 joined false c = or-false c
 
-rewritten : (r c : Bool) (new old : Entry) (d : ℕ)
+pub rewritten : (r c : Bool) (new old : Entry) (d : ℕ)
     → cond (not r && c) (entry-byte new d) (entry-byte old d) ≡ entry-byte (cond r old (cond c new old)) d
 rewritten true c new old d = refl
 rewritten false true new old d = refl

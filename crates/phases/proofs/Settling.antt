@@ -34,7 +34,7 @@ absorb false true y q e = refl
 absorb false false y q e = sym q ∙ e
 
 -- a round after one that added nothing adds nothing
-last-next : (G : Arena) → Lawful G → (v : Phase) (f : G .Place → Bool) (k : ℕ)
+pub last-next : (G : Arena) → Lawful G → (v : Phase) (f : G .Place → Bool) (k : ℕ)
     → ((p : G .Place) → Inside G p → reached v G f (suc k) p ≡ true → reached v G f k p ≡ true)
     → (p : G .Place) → Inside G p → reached v G f (suc (suc k)) p ≡ true → reached v G f (suc k) p ≡ true
 unfolding reached

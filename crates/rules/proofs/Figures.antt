@@ -34,7 +34,9 @@ refusal-of (suc (suc (suc (suc (suc (suc (suc (suc (suc (suc (suc (suc zero)))))
 refusal-of (suc (suc (suc (suc (suc (suc (suc (suc (suc (suc (suc (suc (suc zero))))))))))))) k = Refusal.Order k
 refusal-of (suc (suc (suc (suc (suc (suc (suc (suc (suc (suc (suc (suc (suc (suc zero)))))))))))))) k = Refusal.NoClauses
 refusal-of (suc (suc (suc (suc (suc (suc (suc (suc (suc (suc (suc (suc (suc (suc (suc zero))))))))))))))) k = Refusal.Clause
-refusal-of (suc (suc (suc (suc (suc (suc (suc (suc (suc (suc (suc (suc (suc (suc (suc (suc n)))))))))))))))) k = Refusal.Memory
+refusal-of (suc (suc (suc (suc (suc (suc (suc (suc (suc (suc (suc (suc (suc (suc (suc (suc zero)))))))))))))))) k = Refusal.Memory
+refusal-of (suc (suc (suc (suc (suc (suc (suc (suc (suc (suc (suc (suc (suc (suc (suc (suc (suc zero))))))))))))))))) k = Refusal.Memory
+refusal-of (suc (suc (suc (suc (suc (suc (suc (suc (suc (suc (suc (suc (suc (suc (suc (suc (suc (suc n)))))))))))))))))) k = Refusal.Slips
 
 abbrev value-of : ℕ → Value
 value-of zero = Value.Losing
@@ -58,6 +60,7 @@ refusal-back (Refusal.Order k) = refl
 refusal-back Refusal.NoClauses = refl
 refusal-back Refusal.Clause = refl
 refusal-back Refusal.Memory = refl
+refusal-back Refusal.Slips = refl
 
 pub refusal-some : (r : Refusal) → (n : ℕ) × (refusal-fault r .number ≡ suc n)
 refusal-some Refusal.Short = (0, refl)
@@ -75,6 +78,7 @@ refusal-some (Refusal.Order k) = (12, refl)
 refusal-some Refusal.NoClauses = (13, refl)
 refusal-some Refusal.Clause = (14, refl)
 refusal-some Refusal.Memory = (16, refl)
+refusal-some Refusal.Slips = (17, refl)
 
 pub value-back : (v : Value) → value-of (value-number v) ≡ v
 value-back Value.Losing = refl
@@ -127,6 +131,7 @@ record-none Refusal.Outcome f o = refl
 record-none Refusal.NoClauses f o = refl
 record-none Refusal.Clause f o = refl
 record-none Refusal.Memory f o = refl
+record-none Refusal.Slips f o = refl
 
 pub planned-known : (r s : Planned) → planned-fault r ≡ planned-fault s → r ≡ s
 planned-known = known-by planned-fault planned-of planned-back

@@ -18,6 +18,7 @@ pub mod Unique
 pub mod Planned
 pub mod Followed
 pub mod Entries
+pub mod Shapes
 pub mod Existing
 pub mod Retelling
 pub mod Same

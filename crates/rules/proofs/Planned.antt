@@ -41,8 +41,8 @@ planned-long (refused n) z = absurd (n z)
 planned-long (no-room e l) z = absurd (omega arith)
 planned-long {b} {before} (planned {p} e l plan) z = omega (arith, plan .long, length-append p (drop (room (said b)) before))
 
--- the entry of a place in a plan with more bytes behind it
-front-entry : (p q : List ℕ) (i : ℕ) → 4 * i + 4 ≤ length p → entry (p ++ q) i ≡ entry p i
+-- the entry i of a plan with more bytes behind it
+pub front-entry : (p q : List ℕ) (i : ℕ) → 4 * i + 4 ≤ length p → entry (p ++ q) i ≡ entry p i
 front-entry p q i h =
     let a = List·getD-append p q 0 (4 * i) (omega arith) in
     let b = List·getD-append p q 0 (4 * i + 1) (omega arith) in

@@ -28,9 +28,22 @@ same-bytes p p′ i (suc (suc (suc zero))) h l l′ e =
     rw z ((two-bytes _ _ _ _ l l′ (ap (λ (x : Entry). x .number) e)) .1)
 same-bytes p p′ i (suc (suc (suc (suc d)))) h l l′ e = absurd (omega arith)
 
-some-goals : (s q i : ℕ) → i < s * q → 0 < q
+pub some-goals : (s q i : ℕ) → i < s * q → 0 < q
 some-goals s zero i h = let z : s * 0 ≡ 0 = mul-zero s in absurd (omega arith)
 some-goals s (suc q) i h = omega arith
+
+-- buffers of n entries that have the same entries are the same
+pub same-plan : (n : ℕ) {p p′ : List ℕ} → length p ≡ 4 * n → length p′ ≡ 4 * n → ((y : ℕ) → y < length p → getD p y 0 < 256)
+    → ((y : ℕ) → y < length p′ → getD p′ y 0 < 256) → ((i : ℕ) → i < n → entry p i ≡ entry p′ i) → p ≡ p′
+same-plan n {p} {p′} long long′ bytes bytes′ same = ext-getD 0 p p′ (long ∙ sym long′) at
+  where
+    at : (y : ℕ) → y < length p → getD p y 0 ≡ getD p′ y 0
+    at y h =
+        let i = y / 4 in
+        let z : 4 * i + y % 4 ≡ y = omega arith in
+        let l : i < n = omega arith in
+        subst (λ (x : ℕ). getD p x 0 ≡ getD p′ x 0) z
+        (same-bytes p p′ i (y % 4) (omega arith) (bytes (4 * i + 2) (omega arith)) (bytes′ (4 * i + 2) (omega arith)) (same i l))
 
 module _ (j : Job) (L : Lawful (arena j)) where
   same-entry : {p p′ : List ℕ} → Plan j p → Plan j p′ → (i : ℕ) → i < places j → entry p i ≡ entry p′ i
@@ -39,15 +52,4 @@ module _ (j : Job) (L : Lawful (arena j)) where
       (λ s q hs hq. right-unique (arena j) L (a .right s q hs hq) (b .right s q hs hq)) i h
 
   pub plan-unique : {p p′ : List ℕ} → Plan j p → Plan j p′ → p ≡ p′
-  plan-unique {p} {p′} a b = ext-getD 0 p p′ (a .long ∙ sym (b .long)) same
-    where
-      same : (y : ℕ) → y < length p → getD p y 0 ≡ getD p′ y 0
-      same y h =
-          let n = a .long in
-          let n′ = b .long in
-          let i = y / 4 in
-          let z : 4 * i + y % 4 ≡ y = omega arith in
-          let l : i < places j = omega arith in
-          subst (λ (x : ℕ). getD p x 0 ≡ getD p′ x 0) z
-          (same-bytes p p′ i (y % 4) (omega arith) (a .bytes (4 * i + 2) (omega arith)) (b .bytes (4 * i + 2) (omega arith))
-          (same-entry a b i l))
+  plan-unique a b = same-plan (places j) (a .long) (b .long) (a .bytes) (b .bytes) (same-entry a b)

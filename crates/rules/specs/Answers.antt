@@ -28,6 +28,7 @@ refusal-fault Refusal.Outcome = only 11
 refusal-fault Refusal.NoClauses = only 14
 refusal-fault Refusal.Clause = only 15
 refusal-fault Refusal.Memory = only 17
+refusal-fault Refusal.Slips = only 18
 
 abbrev pub value-number : Value → ℕ
 value-number Value.Losing = 0

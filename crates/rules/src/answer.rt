@@ -19,6 +19,7 @@ pub enum Refusal {
     NoClauses,
     Clause,
     Memory,
+    Slips,
 }
 
 pub enum Value {
@@ -63,6 +64,7 @@ impl Refusal {
             Refusal::NoClauses => 14,
             Refusal::Clause => 15,
             Refusal::Memory => 17,
+            Refusal::Slips => 18,
         }
     }
 
@@ -86,6 +88,7 @@ impl Refusal {
             Refusal::NoClauses => 0,
             Refusal::Clause => 0,
             Refusal::Memory => 0,
+            Refusal::Slips => 0,
         }
     }
 }

@@ -46,14 +46,14 @@ fn is_blank(e: Entry) -> bool
 }
 
 // Whether an entry names an action and a number, each in its range.
-fn is_due(e: Entry, actions: u8, places: u16) -> bool
+fn is_due(e: Entry, actions: u8, places: usize) -> bool
     ensures { λ r. ⌜ r ≡ due actions places e ⌝ }
 {
-    e.action < actions && 1 <= e.number && e.number < places
+    e.action < actions && 1 <= e.number && (e.number as usize) < places
 }
 
 // Which of the four shapes an entry has.
-pub fn shape_of(e: Entry, actions: u8, places: u16) -> Shape
+pub fn shape_of(e: Entry, actions: u8, places: usize) -> Shape
     ensures { λ r. ⌜ ShapeOf actions places e r ⌝ }
 {
     let value = e.value;

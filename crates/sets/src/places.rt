@@ -35,7 +35,7 @@ pub fn words_for(n: usize) -> usize
 }
 
 // How many bits of a word are set. A word that is lent is passed here by value, which tells that it has 64 bits.
-fn ones_of(word: u64) -> usize
+pub fn ones_of(word: u64) -> usize
     ensures { λ r. ⌜ (r ≡ ones word) × (word < 2 ^ 64) ⌝ }
 {
     u64::count_ones(word) as usize

@@ -1,4 +1,5 @@
 -- `entry::is_due` meets its contract.
+use borrow.Author.Needs.{needs}
 use borrow.Author.Tests.{lt-ltb, le-ltb}
 use mathlib.Core.Bool.{_&&_}
 use mathlib.Core.Logic.{⊎-elim}
@@ -18,6 +19,9 @@ third c =
     (λ w. rw (w .1, le-ltb (a .e .action) (a .actions) (w .0 .left)))
     (c .if1 .came)
 
+cast-result : tie.Need-cast-result
+cast-result c = search needs
+
 returns : tie.Need-returns
 returns c = sym (rw (c .before .if2 .taken) at (third (c .before .before)))
 
@@ -25,4 +29,4 @@ returns-2 : tie.Need-returns-2
 returns-2 c = c .if2 .left ∙ sym (rw (c .if2 .left) at (third (c .before)))
 
 pub is-due-spec : {M : Type 1} → statement M
-is-due-spec = tie.close (tie.spec returns returns-2)
+is-due-spec = tie.close (tie.spec cast-result returns returns-2)

@@ -48,8 +48,8 @@ returns-3 c =
     advice-no-place (z .pre) (z .args .plan .now) (z .args .self .state) (z .args .self .goal) (n .if1 .left)
     (no-goal (z .pre) _ _ (c .before .before .if2 .left) (c .if3 .taken))
 
-cast-shape-of : tie.Need-cast-shape-of
-cast-shape-of d =
+cast-t17 : tie.Need-cast-t17
+cast-t17 d =
     let z = d .before .before .before .before .before .before .before .before .before .before in
     omega (arith, d .before .before .if2 .left, few-states (z .pre), d .if3 .left, few-goals (z .pre))
 
@@ -71,11 +71,6 @@ read-entry-requires c κs =
     let d = c .before .before in
     let n = d .before .before .before .before in
     omega (arith, c .entry-number .ensures, digits-lt (d .before .before .if2 .left) (d .if3 .left), n .if1 .left)
-
-cast-shape-of-2 : tie.Need-cast-shape-of-2
-cast-shape-of-2 c =
-    let d = c .before .before .before in
-    omega (arith, few-places (d .before .before .before .before .before .before .before .before .before .before .pre))
 
 shape-of-requires : tie.Need-shape-of-requires
 shape-of-requires c κs = search needs
@@ -119,12 +114,11 @@ advice-read-spec =
     returns
     returns-2
     returns-3
-    cast-shape-of
+    cast-t17
     cast-entry-number
     cast-entry-number-2
     entry-number-requires
     read-entry-requires
-    cast-shape-of-2
     shape-of-requires
     enum-told
     enum-known-value
