@@ -22,7 +22,7 @@ use Rattle.cabinet.specs.Figures.{figures-planned}
 use Rattle.cabinet.specs.declared.calls.PlannedFigures.{PlannedFigures}
 use Rattle.cabinet.proofs.Ranges.{OfPlanning}
 
-figures-known : (r r′ : PlannedFigures) → figures-planned r ≡ figures-planned r′ → r ≡ r′
+pub figures-known : (r r′ : PlannedFigures) → figures-planned r ≡ figures-planned r′ → r ≡ r′
 figures-known = known-by figures-planned (λ (f : Fault). record { refusal = f .number; «record» = f .«record» }) (λ f. refl)
 
 pub indexed-unique : {b before index counters p i c p′ i′ c′ : List ℕ} (r r′ : PlannedFigures)

@@ -56,7 +56,7 @@ past-move : (t : Bool) (f : Fault) (y : answers.MovedFigures) → RecordClear f 
 past-move true f y r h = λ z. (refl, refl, r)
 past-move false f y r h = h
 
-past-advice : (t : Bool) (f : Fault) (y : answers.AdvisedFigures) → RecordClear f → AdvisedClear y
+pub past-advice : (t : Bool) (f : Fault) (y : answers.AdvisedFigures) → RecordClear f → AdvisedClear y
     → AdvisedClear (cond t (refused-advice f) y)
 past-advice true f y r h = λ z. (refl, refl, refl, r)
 past-advice false f y r h = h

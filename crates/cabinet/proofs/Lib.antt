@@ -17,3 +17,4 @@ pub mod Effort
 pub mod Plate
 pub mod Behaving
 pub mod ByIndex
+pub mod ArmSlips

@@ -62,7 +62,7 @@ past-move : (P : answers.MovedFigures → Type 0) (x : Bool) (f : Fault) (y : an
 past-move P true f y h k = h
 past-move P false f y h k = k
 
-past-advice : (P : ℕ → Type 0) (x : Bool) (f : Fault) (y : answers.AdvisedFigures) → Told P f → Told P (advised-fault y)
+pub past-advice : (P : ℕ → Type 0) (x : Bool) (f : Fault) (y : answers.AdvisedFigures) → Told P f → Told P (advised-fault y)
     → Told P (advised-fault (cond x (refused-advice f) y))
 past-advice P true f y h k = h
 past-advice P false f y h k = k

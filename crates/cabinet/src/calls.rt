@@ -53,7 +53,7 @@ fn of_moved(r: Moved) -> MovedFigures
 }
 
 // The figures of an answer of advice.
-fn of_advised(r: Advised) -> AdvisedFigures
+pub fn of_advised(r: Advised) -> AdvisedFigures
     ensures { λ f. ⌜ figures-advised f ≡ advised-figures r ⌝ }
 {
     match r {

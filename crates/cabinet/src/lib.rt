@@ -1,4 +1,5 @@
 // The calls for C, and the place that a caller holds.
+pub mod arm;
 pub mod calls;
 pub mod checks;
 pub mod goals;
