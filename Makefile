@@ -2,6 +2,7 @@
 
 PREFIX ?= /usr/local
 JOB ?= examples/plate.job
+SLIPS ?=
 N ?= 2000000
 CC ?= cc
 CFLAGS ?= -O2
@@ -35,20 +36,26 @@ script_for = sed 's|@PROGRAM@|$(strip $(RUN) $(1))|' $(2) >$(3) && chmod 755 $(3
 install_script = mkdir -p $(DESTDIR)$(PREFIX)/libexec && cp target/bin/$(1) $(DESTDIR)$(PREFIX)/libexec/$(2) && \
   $(call script_for,$(PREFIX)/libexec/$(2),$(3),$(DESTDIR)$(PREFIX)/bin/$(2))
 
-.PHONY: test plan lib examples install bench soak tests try-examples try-listing try-inputs try-slips try-checks need-rt need-cc need-cargo need-x86
+.PHONY: test plan lib examples install bench soak tests try-examples try-listing try-inputs try-slips try-checks try-trembling need-rt need-cc need-cargo need-x86
 
 # Everything, from nothing: the layout of the files, the calls from C, the listing, many inputs, and last the toolchain's gate.
 test: need-rt need-cc need-cargo
 	@rt fmt --check
 	@rm -f build/libcabinet.a
-	@$(MAKE) --no-print-directory try-examples try-inputs try-slips try-checks try-listing
+	@$(MAKE) --no-print-directory try-examples try-inputs try-slips try-checks try-trembling try-listing
 	@rt ci
 
-# Proves what has changed, builds, and lists a job.
+# Proves what has changed, builds, and lists a job; with SLIPS=K, 0 to 3, its plans for up to K slips of the arm.
+ifeq ($(SLIPS),)
 plan: need-rt
 	@mkdir -p build
 	@rt check listing >build/plan.log 2>&1 || { cat build/plan.log; exit 1; }
 	@$(RUN) target/bin/listing <$(JOB)
+else
+plan: lib need-cc
+	@$(call c_program,examples/layers.c,build/layers)
+	@$(RUN) build/layers $(SLIPS) <$(JOB)
+endif
 
 # The archive for C. It is proved and made again when a file or folder of crates/ is newer, or the toolchain.
 lib: build/libcabinet.a
@@ -62,6 +69,8 @@ examples: lib need-cc
 	@$(call c_program,examples/plate.c,build/plate)
 	@$(call c_program,examples/goal.c,build/goal)
 	@$(call c_program,examples/tall.c,build/tall)
+	@$(call c_program,examples/arm.c,build/arm)
+	@$(call c_program,examples/layers.c,build/layers)
 
 # The program that makes the calls of the tests, over the archive, and the independent planner with the many inputs.
 tests: lib need-cc need-cargo
@@ -76,9 +85,13 @@ try-examples: examples
 	@$(RUN) build/tall build/tall.job >build/tall.out
 	@diff examples/tall.out build/tall.out
 	@cmp examples/tall.job build/tall.job
+	@$(RUN) build/arm >build/arm.out
+	@diff examples/arm.out build/arm.out
+	@for slips in 0 1 2 3 4; do $(RUN) build/layers $$slips <examples/plate.job; done >build/layers.out
+	@diff examples/layers.out build/layers.out
 	@echo '#include "cabinet.h"' >build/header.cc
 	@$(CC) -x c++ -std=c++11 $(WARNINGS) -Iinclude -fsyntax-only build/header.cc
-	@echo "examples: One plate plays as stored, also with a goal from slips, and so does a tall cabinet; the header is C++ too"
+	@echo "examples: One plate plays as stored, also with a goal from slips and with slips of the arm, and so does a tall cabinet; the header is C++ too"
 
 try-inputs: tests
 	@$(TESTS) run
@@ -91,6 +104,9 @@ try-checks: tests
 	@rt check compare >build/check.log 2>&1 || { cat build/check.log; exit 1; }
 	@$(call script_for,$(CURDIR)/target/bin/compare,install/check.in,build/cabinet-check)
 	@sh tests/checking/run $(CURDIR)/build/cargo/release/cabinet-tests $(CURDIR)/build/cabinet-check
+
+try-trembling: tests
+	@$(TESTS) trembling
 
 try-listing: tests
 	@rt check listing >build/plan.log 2>&1 || { cat build/plan.log; exit 1; }

@@ -55,6 +55,11 @@ extern "C" {
 #define CABINET_INDEX_MAX 8704
 #define CABINET_COUNTERS_MAX 262144
 
+/* The most slips of the arm that are planned for, and the bytes that K + 1 plans take: four for each place with each count of slips left from 0 to K. */
+#define CABINET_SLIPS_MAX 3
+#define CABINET_PLAN_SLIPS_BYTES(states, goals, slips) (4 * ((size_t)(slips) + 1) * (size_t)(states) * (size_t)(goals))
+#define CABINET_PLAN_SLIPS_MAX 262144
+
 /* What is added to the label of a busy state. */
 #define CABINET_BUSY 128
 
@@ -73,9 +78,10 @@ enum cabinet_refusal {
   CABINET_FIELD = 12,      /* a field of a record is out of range; `record` says which */
   CABINET_ORDER = 13,      /* a record does not come after the one before it, compared field by field; `record` says which */
   CABINET_GOAL = 6,        /* Goal has the wrong length, a goal state is not below Q, or a mark is above 1 */
-  CABINET_ROOM = 7,        /* the plan buffer is under 4 * S * Q bytes, or the Goal body has no room */
+  CABINET_SLIPS = 18,      /* more than 3 slips of the arm */
+  CABINET_ROOM = 7,        /* the plan buffer is under 4 * S * Q bytes, for K slips under K + 1 times that, or the Goal body has no room */
   CABINET_MEMORY = 17,     /* the index is under S + records words, or the counters are under S * Q * A */
-  CABINET_PLACE = 9,       /* the state is not below S, or the goal state is not below Q */
+  CABINET_PLACE = 9,       /* the state is not below S, the goal state is not below Q, or more slips are left than the plans are for */
   CABINET_ENTRY = 10,      /* the plan's entry has none of the four shapes */
   CABINET_OUTCOME = 11,    /* no record has this state, action and outcome */
   CABINET_NO_CLAUSES = 14, /* no clause, more than three, or a length that is no multiple of 3 */
@@ -169,6 +175,22 @@ cabinet_written cabinet_goal(const uint8_t *clauses, size_t clauses_len, uint32_
    to 7, 12, 13, 16. */
 cabinet_checked cabinet_check(const uint8_t *job, size_t job_len, const uint8_t *plan, size_t plan_len);
 
+/* Plans for slips of the arm. An old arm sometimes performs another open action than the one commanded. With k slips left the cabinet may do the action
+   named, to any of its listed outcomes with k left; or, if k is above 0, any other open action, to any of its listed outcomes with k - 1 left. Where one
+   action alone is open no slip can happen. A slip is one move. Values, numbers and actions are those of planning over places with a count of slips
+   left, so that a winning place is won within its number though all of its slips happen, and a pending one may be helped by a slip. `slips`, K, is 0 to
+   3, and the buffer gets K + 1 plans, slips 0 first: entry (k * S + s) * Q + q says of state s with goal state q and k slips left what an entry says. With K = 0 it is
+   `cabinet_plan`, byte for byte, and the first plan is that one for every K. Bytes beyond the plans stay as they are, and a refusal changes nothing. Gives
+   1 to 6, 12, 13, then 18 for K above 3, then 7 for less than CABINET_PLAN_SLIPS_BYTES(S, Q, K). */
+cabinet_planned cabinet_plan_slips(const uint8_t *job, size_t job_len, uint32_t slips, uint8_t *plan, size_t plan_len);
+
+/* What plans for up to `slips` slips say of a place with `left` of them left. To follow them, begin with `left` = K; hand `cabinet_follow` the action that
+   was done, and take one off `left` where that is not the action named (and only there: a slip that leads where the named action might have led is a slip
+   all the same). A slip with none left is more than the plans are for. The plans are read and never written, and trusted by the asked entry's shape only;
+   its number is below (K + 1) * S * Q. Gives 1 to 6, 12, 13, 18, 7, 9 (also where `left` is above K) and 10, in this order. */
+cabinet_advised cabinet_advice_slips(const uint8_t *job, size_t job_len, uint32_t slips, const uint8_t *plan, size_t plan_len, uint32_t state,
+                                     uint32_t goal, uint32_t left);
+
 /* In short:
 
      static uint8_t plan[CABINET_PLAN_MAX];
@@ -181,6 +203,12 @@ cabinet_checked cabinet_check(const uint8_t *job, size_t job_len, const uint8_t 
        at = cabinet_follow(job, job_len, at.state, at.goal, say.action, outcome);
        if (at.refusal != CABINET_OK) break;           // an outcome that the table does not list: at is no place any more
      }
+
+   With slips of the arm, `left` = K at first, the advice is cabinet_advice_slips(job, job_len, K, plan, sizeof plan, at.state, at.goal, left), and a move is:
+
+       uint32_t done = what_was_done(), outcome = where_it_led();
+       at = cabinet_follow(job, job_len, at.state, at.goal, done, outcome);
+       if (done != say.action) { if (left == 0) break; left--; }   // more slips than planned for: plan again
 */
 
 #ifdef __cplusplus

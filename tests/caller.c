@@ -3,7 +3,7 @@
 
    A lent buffer ends at a page that can be neither read nor written, or begins right after one. The job's pages can only be read, and so can the
    plan's but in a call that is to write it, and the index's and the counters'. Slips are lent where a job is, and a Goal body is written where a plan is.
-   `caller N`, N from 0 to 11, steps over one of these fences. */
+   The plans for slips of the arm, one for each count, have memory of their own. `caller N`, N from 0 to 14, steps over one of these fences. */
 
 #define _DEFAULT_SOURCE
 #include <signal.h>
@@ -16,8 +16,9 @@
 
 #include "cabinet.h"
 
-enum { PAGE = 4096, JOB_SIZE = 28 * PAGE, PLAN_SIZE = 17 * PAGE, INDEX_SIZE = 5 * PAGE, COUNTERS_SIZE = 130 * PAGE };
-enum { INPUT, DUE, LEND, PLAN, START, FOLLOW, ADVICE, TIME, GOAL, DUE_INDEX, INDEXED, CHECK, TIME_START, TIME_FOLLOW, TIME_CHECK };
+enum { PAGE = 4096, JOB_SIZE = 28 * PAGE, PLAN_SIZE = 17 * PAGE, INDEX_SIZE = 5 * PAGE, COUNTERS_SIZE = 130 * PAGE, LAYERS_SIZE = 65 * PAGE };
+enum { INPUT, DUE, LEND, PLAN, START, FOLLOW, ADVICE, TIME, GOAL, DUE_INDEX, INDEXED, CHECK, TIME_START, TIME_FOLLOW, TIME_CHECK,
+       DUE_LAYERS, LEND_LAYERS, PLAN_SLIPS, ADVICE_SLIPS, TIME_SLIPS };
 
 /* A line: what to do, the side of the fence (1: buffers begin after it), how many bytes come after it, the call's figures, the answer that is due. */
 static struct {
@@ -32,10 +33,10 @@ typedef struct {
 } fenced;
 
 static fenced jobs = {NULL, JOB_SIZE, PROT_NONE}, plans = {NULL, PLAN_SIZE, PROT_NONE};
-static fenced indexes = {NULL, INDEX_SIZE, PROT_NONE}, counts = {NULL, COUNTERS_SIZE, PROT_NONE};
+static fenced indexes = {NULL, INDEX_SIZE, PROT_NONE}, counts = {NULL, COUNTERS_SIZE, PROT_NONE}, layers = {NULL, LAYERS_SIZE, PROT_NONE};
 
-static uint8_t due_plan[PLAN_SIZE], due_index[INDEX_SIZE], zeros[COUNTERS_SIZE], pool[2 * COUNTERS_SIZE];
-static uint32_t job_len, due_len, due_index_len, due_counters_len, lent_len, input[2], calls;
+static uint8_t due_plan[PLAN_SIZE], due_index[INDEX_SIZE], zeros[COUNTERS_SIZE], pool[2 * COUNTERS_SIZE], due_layers[LAYERS_SIZE];
+static uint32_t job_len, due_len, due_index_len, due_counters_len, due_layers_len, lent_len, lent_layers_len, input[2], calls;
 static unsigned long long all_calls;
 
 static void fail(const char *why) {
@@ -118,32 +119,32 @@ static void same_memory(const uint8_t *lent, uint32_t refusal) {
   same_bytes("plan", plans.inside + end, before + end, PLAN_SIZE - end, (long)due_len);
 }
 
-/* So many bytes beside a buffer of words are held to as well, on the side where it touches no fence. */
+/* So many bytes beside a buffer of words or of plans for slips are held to as well, on the side where it touches no fence. */
 enum { BESIDE = 256 };
 
 /* Where the bytes that are filled and held to begin, and how many they are. */
-static uint8_t *window(const fenced *memory, uint32_t words, size_t *count) {
-  size_t beside = memory->size - 2 * (size_t)words < BESIDE ? memory->size - 2 * (size_t)words : BESIDE;
-  *count = 2 * (size_t)words + beside;
+static uint8_t *window(const fenced *memory, size_t lent, size_t *count) {
+  size_t beside = memory->size - lent < BESIDE ? memory->size - lent : BESIDE;
+  *count = lent + beside;
   return place(memory, *count);
 }
 
-/* Words to be written to, with what the memory holds before chosen by a figure; where the call is to be refused, they can only be read. */
-static uint16_t *lend_words(fenced *memory, uint32_t words) {
+/* So many bytes to be written to, with what the memory holds before chosen by a figure; where the call is to be refused, they can only be read. */
+static uint8_t *lend_beside(fenced *memory, size_t lent) {
   size_t count;
   int good = line.due[0] == CABINET_OK;
-  if (words > memory->size / 2) fail("too many words lent");
+  if (lent > memory->size) fail("too many bytes lent");
   set_rights(memory, good ? PROT_READ | PROT_WRITE : PROT_READ);
-  uint8_t *from = window(memory, words, &count);
+  uint8_t *from = window(memory, lent, &count);
   if (good) memcpy(from, held_before(), count);
-  return (uint16_t *)place(memory, 2 * (size_t)words);
+  return place(memory, lent);
 }
 
-/* Holds those words to what a call that was to succeed, and did, has to leave: the first bytes are due, and all others as before. */
-static void same_words(const char *name, const fenced *memory, uint32_t words, const uint8_t *due, size_t due_count, uint32_t refusal) {
+/* Holds those bytes to what a call that was to succeed, and did, has to leave: the first are due, and all others as before. */
+static void same_beside(const char *name, const fenced *memory, size_t length, const uint8_t *due, size_t due_count, uint32_t refusal) {
   if (line.due[0] != CABINET_OK || refusal != CABINET_OK) return;
   size_t count;
-  const uint8_t *from = window(memory, words, &count), *lent = place(memory, 2 * (size_t)words), *before = held_before();
+  const uint8_t *from = window(memory, length, &count), *lent = place(memory, length), *before = held_before();
   size_t at = (size_t)(lent - from), end = at + due_count;
   same_bytes(name, from, before, at, -(long)at);
   same_bytes(name, lent, due, due_count, 0);
@@ -153,11 +154,12 @@ static void same_words(const char *name, const fenced *memory, uint32_t words, c
 /* Plans with so many words of index and counters. */
 static cabinet_planned plan_indexed(const uint8_t *job, const uint32_t *f) {
   uint8_t *lent = lend(f[0]);
-  uint16_t *index = lend_words(&indexes, f[2]), *counters = lend_words(&counts, f[3]);
+  size_t index_size = 2 * (size_t)f[2], counters_size = 2 * (size_t)f[3];
+  uint16_t *index = (uint16_t *)lend_beside(&indexes, index_size), *counters = (uint16_t *)lend_beside(&counts, counters_size);
   cabinet_planned planned = cabinet_plan_indexed(job, job_len, lent, f[0], index, f[2], counters, f[3]);
   same_memory(lent, planned.refusal);
-  same_words("index", &indexes, f[2], due_index, due_index_len, planned.refusal);
-  same_words("counters", &counts, f[3], zeros, 2 * (size_t)due_counters_len, planned.refusal);
+  same_beside("index", &indexes, index_size, due_index, due_index_len, planned.refusal);
+  same_beside("counters", &counts, counters_size, zeros, 2 * (size_t)due_counters_len, planned.refusal);
   return planned;
 }
 
@@ -203,6 +205,27 @@ static void say_check_time(const uint8_t *job, uint32_t times) {
   fflush(stdout);
 }
 
+/* The time of so many calls of planning for so many slips. */
+static void say_slips_time(const uint8_t *job, uint32_t times, uint32_t slips) {
+  struct timespec from, to;
+  uint32_t refused = 0;
+  set_rights(&layers, PROT_READ | PROT_WRITE);
+  clock_gettime(CLOCK_MONOTONIC, &from);
+  for (; times > 0; times--) refused |= cabinet_plan_slips(job, job_len, slips, layers.inside, CABINET_PLAN_SLIPS_MAX).refusal;
+  clock_gettime(CLOCK_MONOTONIC, &to);
+  if (refused != CABINET_OK) fail("timed planning is refused");
+  printf("%lld\n", (to.tv_sec - from.tv_sec) * 1000000000LL + (to.tv_nsec - from.tv_nsec));
+  fflush(stdout);
+}
+
+/* Plans for so many slips. */
+static cabinet_planned plan_slips(const uint8_t *job, const uint32_t *f) {
+  uint8_t *lent = lend_beside(&layers, f[0]);
+  cabinet_planned planned = cabinet_plan_slips(job, job_len, f[2], lent, f[0]);
+  same_beside("plans", &layers, f[0], due_layers, due_layers_len, planned.refusal);
+  return planned;
+}
+
 static void call(void) {
   const uint8_t *job = place(&jobs, job_len), *plan = place(&plans, lent_len);
   const uint32_t *f = line.figures;
@@ -224,6 +247,13 @@ static void call(void) {
     set_rights(&plans, PROT_READ);
     cabinet_checked checked = cabinet_check(job, job_len, plan, lent_len);
     answer[0] = checked.refusal, answer[1] = checked.state, answer[2] = checked.goal, answer[3] = checked.record;
+  } else if (line.what == PLAN_SLIPS) {
+    cabinet_planned planned = plan_slips(job, f);
+    answer[0] = planned.refusal, answer[1] = planned.record;
+  } else if (line.what == ADVICE_SLIPS) {
+    const uint8_t *lent = place(&layers, lent_layers_len);
+    cabinet_advised say = cabinet_advice_slips(job, job_len, f[0], lent, lent_layers_len, f[1], f[2], f[3]);
+    answer[0] = say.refusal, answer[1] = say.value, answer[2] = say.action, answer[3] = say.number, answer[4] = say.record;
   } else if (line.what == ADVICE) {
     cabinet_advised say = cabinet_advice(job, job_len, plan, lent_len, f[0], f[1]);
     answer[0] = say.refusal, answer[1] = say.value, answer[2] = say.action, answer[3] = say.number, answer[4] = say.record;
@@ -237,7 +267,7 @@ static void call(void) {
 
 /* Steps over a fence or writes to locked memory, to show that it ends the call. */
 static void step_over(int fence) {
-  fenced *all[] = {&jobs, &plans, &indexes, &counts}, *memory = all[fence / 3 % 4];
+  fenced *all[] = {&jobs, &plans, &indexes, &counts, &layers}, *memory = all[fence / 3 % 5];
   volatile uint8_t *at = memory->inside;
   set_rights(memory, PROT_READ);
   if (fence % 3 == 0) at[-1];
@@ -252,6 +282,7 @@ int main(int words, char **word) {
   set_fences(&plans);
   set_fences(&indexes);
   set_fences(&counts);
+  set_fences(&layers);
   if (words > 1) step_over(atoi(word[1]));
   uint32_t seed = 1;
   for (size_t i = 0; i < sizeof pool; i++) pool[i] = (uint8_t)((seed = seed * 1664525u + 1013904223u) >> 24);
@@ -271,6 +302,12 @@ int main(int words, char **word) {
       if (due_index_len > sizeof due_index || fread(due_index, 1, due_index_len, stdin) != due_index_len) fail("a line without its bytes");
       break;
     case LEND: lent_len = take(&plans); break;
+    case DUE_LAYERS:
+      due_layers_len = line.length;
+      if (due_layers_len > sizeof due_layers || fread(due_layers, 1, due_layers_len, stdin) != due_layers_len) fail("a line without its bytes");
+      break;
+    case LEND_LAYERS: lent_layers_len = take(&layers); break;
+    case TIME_SLIPS: say_slips_time(place(&jobs, job_len), line.figures[0], line.figures[1]); break;
     case TIME_CHECK: say_check_time(place(&jobs, job_len), line.figures[0]); break;
     case TIME: say_time(place(&jobs, job_len), line.figures[0], line.figures[1], line.figures[2]); break;
     case TIME_START:

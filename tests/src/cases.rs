@@ -12,6 +12,9 @@ pub const PLAN_SIZE: usize = 17 * 4_096;
 pub const INDEX_WORDS: usize = 5 * 2_048;
 pub const COUNTERS_WORDS: usize = 130 * 2_048;
 
+/// As much memory for plans for slips of the arm.
+pub const LAYERS_SIZE: usize = 65 * 4_096;
+
 /// Which end of the lent memory touches a fence.
 #[derive(Clone, Copy, PartialEq, Eq)]
 pub enum Side {
@@ -43,6 +46,11 @@ enum What {
     TimeStart,
     TimeFollow,
     TimeCheck,
+    DueLayers,
+    LendLayers,
+    PlanSlips,
+    AdviceSlips,
+    TimeSlips,
 }
 
 /// What went wrong: the number of the input, which of its calls it was, and how.
@@ -79,7 +87,7 @@ fn command() -> Command {
 
 /// Ends the run unless each of the caller's fences stops a step over it.
 pub fn fences_hold() {
-    for fence in 0..12 {
+    for fence in 0..15 {
         let ended = command().arg(fence.to_string()).output().expect("the caller can be started");
         if !String::from_utf8_lossy(&ended.stdout).contains("memory fence touched") {
             println!("fence {fence} of the caller does not hold: it ended with {}", ended.status);
@@ -132,6 +140,16 @@ impl Cases {
         self.line(What::Lend, side, plan, [0; 4], [0; 5]);
     }
 
+    /// The plans that planning for slips of the arm has to leave.
+    pub fn due_layers(&mut self, plans: &[u8]) {
+        self.line(What::DueLayers, Side::Begin, plans, [0; 4], [0; 5]);
+    }
+
+    /// The bytes that advice for slips of the arm gets as its plans.
+    pub fn lend_layers(&mut self, side: Side, plans: &[u8]) {
+        self.line(What::LendLayers, side, plans, [0; 4], [0; 5]);
+    }
+
     pub fn call(&mut self, call: Call, due: Answer) {
         let (what, side, figures) = match call {
             Call::Plan { plan_len, before, side } => (What::Plan, side, [plan_len as u32, before, 0, 0]),
@@ -145,6 +163,12 @@ impl Cases {
                 (What::Goal, side, [room as u32, before, propositions, 0])
             }
             Call::Check { side, .. } => (What::Check, side, [0; 4]),
+            Call::PlanSlips { slips, plan_len, before, side } => {
+                (What::PlanSlips, side, [plan_len as u32, before, slips, 0])
+            }
+            Call::AdviceSlips { slips, place: [state, goal, left], side, .. } => {
+                (What::AdviceSlips, side, [slips, state, goal, left])
+            }
         };
         self.line(what, side, &[], figures, due);
         self.calls.push(call);
@@ -169,6 +193,11 @@ impl Cases {
     /// The seconds that so many checks of the plan that was lent take.
     pub fn time_check(&mut self, side: Side, times: u32) -> f64 {
         self.timed(What::TimeCheck, side, [times, 0, 0, 0])
+    }
+
+    /// The seconds that so many calls of planning for so many slips take.
+    pub fn time_slips(&mut self, side: Side, times: u32, slips: u32) -> f64 {
+        self.timed(What::TimeSlips, side, [times, slips, 0, 0])
     }
 
     fn timed(&mut self, what: What, side: Side, figures: [u32; 4]) -> f64 {

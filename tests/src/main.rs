@@ -11,6 +11,7 @@ mod oracle;
 mod random;
 mod report;
 mod slips;
+mod trembling;
 
 use cases::Cases;
 use check::Desk;
@@ -31,6 +32,7 @@ cabinet-tests list                 the oracle's listing of the job on standard i
 cabinet-tests slips [SEED]         goals from slips, every body byte by byte and by what it means
 cabinet-tests check JOB PLAN       the line that the oracle prints of these files
 cabinet-tests checks [SEED]        plans from elsewhere, every tie and many changes, judged place for place
+cabinet-tests trembling [SEED]     slips of the arm: every larger place, every count of slips, short and long buffers
 cabinet-tests listings WORDS       the listing program, started by these words, beside the oracle's listing";
 
 /// Tries the inputs with these numbers, prints the counts and says whether everything has come up.
@@ -97,6 +99,12 @@ fn command(words: &[String]) -> Option<()> {
         "checks" => {
             if !checks::agree(seed_at(1)?) {
                 println!("but not every answer and every kind of change has come up");
+                std::process::exit(1);
+            }
+        }
+        "trembling" => {
+            if !trembling::agree(seed_at(1)?) {
+                println!("but not every answer, value and count of slips has come up");
                 std::process::exit(1);
             }
         }

@@ -57,6 +57,20 @@ pub enum Call {
         plan_len: usize,
         side: Side,
     },
+    /// Planning for slips of the arm; the bytes before it are chosen by a figure.
+    PlanSlips {
+        slips: u32,
+        plan_len: usize,
+        before: u32,
+        side: Side,
+    },
+    /// Advice there, at a state and a goal state with so many slips left.
+    AdviceSlips {
+        slips: u32,
+        plan_len: usize,
+        place: [u32; 3],
+        side: Side,
+    },
 }
 
 impl Display for Call {
@@ -79,6 +93,13 @@ impl Display for Call {
                 write!(to, "cabinet_goal, propositions {propositions}, goal_len {room}; {side}")
             }
             Call::Check { plan_len, side } => write!(to, "cabinet_check, plan_len {plan_len}; {side}"),
+            Call::PlanSlips { slips, plan_len, side, .. } => {
+                write!(to, "cabinet_plan_slips, slips {slips}, plan_len {plan_len}; {side}")
+            }
+            Call::AdviceSlips { slips, plan_len, place: [state, goal, left], side } => {
+                write!(to, "cabinet_advice_slips, slips {slips}, plan_len {plan_len}, state {state}, goal {goal}, ")?;
+                write!(to, "left {left}; {side}")
+            }
         }
     }
 }

@@ -2,6 +2,7 @@
 
 mod checks;
 mod plain;
+mod slips;
 mod table;
 
 use crate::cases::{Cases, Side};
@@ -137,6 +138,11 @@ pub fn bench(date: &str) {
     table::growth(&rings);
     println!();
     checks::print(cases, &jobs);
+    println!();
+    // Rounds over larger places of the deepest jobs take minutes: those are left out.
+    let short = jobs.each_ref().map(|(name, job, repeats)| (*name, job.clone(), *repeats));
+    let short: Vec<_> = short.into_iter().filter(|(name, ..)| !name.starts_with("deepest")).collect();
+    slips::print(cases, &short);
     println!();
     println!(
         "The longest Goal body from slips, three clauses over six propositions, is written in {}.",

@@ -68,6 +68,17 @@ pub fn middling(seed: u64) -> Vec<u8> {
     chain::job(&mut Random::new(seed, 2), size, Doubt::Somewhere, End::AnyState).bytes()
 }
 
+/// A line of states to where the goal is met, all by action 0; from the last, action 1 leads back to the first. Each slip there costs the whole way.
+pub fn back_to_the_first(states: usize) -> Vec<u8> {
+    let form = if states > Form::Old.most_states() { Form::Tall } else { Form::Old };
+    let (last, mut labels) = (states as u16 - 1, vec![0; states]);
+    labels[states - 1] = 1;
+    let mut moves: Vec<[u16; 3]> = (0..last).map(|state| [state, 0, state + 1]).collect();
+    moves.push([last - 1, 1, 0]);
+    let counts = form.counts([states, 2, 1, 2, 0, 0]);
+    Parts { counts, labels, moves: form.records(&moves), goal: vec![0, 1, 1, 1, 0, 1] }.bytes()
+}
+
 /// A job whose listing has something to show: the largest plans, large numbers, high actions, or an input too long to be taken in whole.
 pub fn listed(seed: u64, number: u64) -> Vec<u8> {
     let random = &mut Random::new(!seed, number);

@@ -16,6 +16,7 @@ pub const NO_CLAUSES: u32 = 14;
 pub const CLAUSE: u32 = 15;
 pub const WRONG: u32 = 16;
 pub const MEMORY: u32 = 17;
+pub const SLIPS: u32 = 18;
 
 /// Why a call says no; the record is 0 unless the number is FIELD or ORDER.
 #[derive(Clone, Copy, Debug, PartialEq, Eq)]
