@@ -25,7 +25,8 @@
    The library needs no heap, keeps nothing between calls, and takes every input: what is bad is refused by number, the first fault
    first. A refusal changes nothing in a buffer that you lend.
 
-   On the stack planning takes up to 20 KiB, planning with an index 44 KiB, the check of a plan 88 KiB, and every other call less than 1 KiB, whatever the job.
+   On the stack planning takes up to 20 KiB, planning with an index 44 KiB, planning for slips of the arm 76 KiB, the check of a plan 88 KiB, and every other call less
+   than 1 KiB, whatever the job.
 
    What you owe: a pointer and its length describe memory of yours that holds that many bytes, or words of two bytes in an index and counters, for as long as the call runs; a length of
    0 wants a pointer that is not null all the same; the buffers of a call do not overlap; and nothing else writes to them during a call.

@@ -3,4 +3,5 @@ pub mod Demands
 pub mod Ranging
 pub mod Scanning
 pub mod Choosing
+pub mod Known
 pub mod Rounding
