@@ -13,7 +13,7 @@ use Rattle.game.specs.Allowed.{Allowed}
 use Rattle.game.specs.Behaviour.{BestEffort, Better}
 use Rattle.game.specs.Demands.{ValueTold, WinningKept, PendingKept}
 use Rattle.game.specs.declared.entry.Entry.{Entry}
-use Rattle.rules.specs.Job.{places, arena}
+use Rattle.rules.specs.Job.{places, start, arena}
 use Rattle.rules.specs.Fault.{Fault, only}
 use Rattle.rules.specs.Bytes.{said}
 use Rattle.rules.specs.Keeps.{Keeps}
@@ -26,9 +26,9 @@ use Rattle.game.proofs.Following.{right-allowed, follow, follow-follows, follow
 use Rattle.game.proofs.Demands.{value-told, winning-kept, pending-kept}
 use Rattle.game.proofs.Undominated.{best-effort, nothing-better}
 use Rattle.rules.proofs.Kept.{kept}
-use Rattle.rules.proofs.Arenas.{inside-iff, size-of, arena-lawful}
+use Rattle.rules.proofs.Arenas.{inside-iff, size-of, arena-lawful, start-inside}
 use Rattle.rules.proofs.Planned.{front-entry}
-use Rattle.larger.specs.Larger.{Larger, Watched, unwatched, watching}
+use Rattle.larger.specs.Larger.{Larger, Watched, watched, unwatched, watching}
 use Rattle.larger.specs.Plans.{larger-arena, larger-number, larger-places, larger-room}
 use Rattle.larger.specs.Plans.{Trembling, refused, too-many, no-room, planned}
 use Rattle.larger.proofs.Slipping.{inside-slipping, size-slipping, slipping-lawful, right-watched, inside-watching, watching-lawful}
@@ -159,47 +159,52 @@ module _ {b before after : List ℕ} {K : ℕ} (done : Trembling b K before (onl
 
   -- ---- The chooser sees what was done and how many slips remain.
 
-  abbrev pub W : Arena
+  abbrev W : Arena
   W = watching (arena (said b)) K
 
   -- what the plans say of a larger place, whatever was done before
-  abbrev pub e : Watched Place → Entry
-  e x = larger-entry b after (unwatched x)
+  abbrev plans : Watched Place → Entry
+  plans x = larger-entry b after (unwatched x)
 
   LW : Lawful W
   LW = watching-lawful (arena (said b)) lawful K
 
+  -- a run starts with K slips left, and nothing done yet: the number of actions, which no action has, stands for that
+  pub watched-start : Inside W (watched K (said b .actions) (start (said b)))
+  watched-start =
+      inside-watching (arena (said b)) lawful K (watched K (said b .actions) (start (said b))) .1 (start-inside b keeps, omega arith, omega arith)
+
   -- the entries are right for such a chooser: all of demand 2 over her places,
-  pub watched-right : (x : Watched Place) → Inside W x → Right W x (e x)
+  pub watched-right : (x : Watched Place) → Inside W x → Right W x (plans x)
   watched-right x i =
       let (h, k, d) = inside-watching (arena (said b)) lawful K x .0 i in
-      right-watched (arena (said b)) lawful K x i (e x) .1
+      right-watched (arena (said b)) lawful K x i (plans x) .1
       (trembled-right done refl (unwatched x) (inside-slipping (arena (said b)) K (unwatched x) .1 (h, k)))
 
-  allowed : (x : Watched Place) → Inside W x → Allowed W x (e x)
+  allowed : (x : Watched Place) → Inside W x → Allowed W x (plans x)
   allowed x i = right-allowed W (watched-right x i)
 
   -- each value is the place's,
-  pub watched-told : (x : Watched Place) → Inside W x → ValueTold W x (e x)
+  pub watched-told : (x : Watched Place) → Inside W x → ValueTold W x (plans x)
   watched-told x i = value-told W LW (allowed x i)
 
   -- the plans can be followed after every play, and whoever follows them keeps the third demand and makes the best effort.
-  pub watched-followable : (h : Play (Watched Place)) → Inside W (last h) → (σ : Way W) × Follows W e σ h
-  watched-followable h i = (follow W e, follow-follows W LW few e allowed h i)
+  pub watched-followable : (h : Play (Watched Place)) → Inside W (last h) → (σ : Way W) × Follows W plans σ h
+  watched-followable h i = (follow W plans, follow-follows W LW few plans allowed h i)
 
-  module _ (σ : Way W) (h : Play (Watched Place)) (follows : Follows W e σ h) (i : Inside W (last h)) where
+  module _ (σ : Way W) (h : Play (Watched Place)) (follows : Follows W plans σ h) (i : Inside W (last h)) where
     -- in mid-run they are followed still
-    pub watched-on : (o : ℕ → Watched Place) → Obeys W σ o h → (n : ℕ) → Follows W e σ (run W σ o h n) × Inside W (last (run W σ o h n))
-    watched-on o obeys n = (follows-on W e σ n h o obeys follows, run-inside W LW σ n h o i obeys)
+    pub watched-on : (o : ℕ → Watched Place) → Obeys W σ o h → (n : ℕ) → Follows W plans σ (run W σ o h n) × Inside W (last (run W σ o h n))
+    watched-on o obeys n = (follows-on W plans σ n h o obeys follows, run-inside W LW σ n h o i obeys)
 
-    pub watched-wins : e (last h) .value ≡ 2 → WinningKept W e σ h
-    watched-wins = winning-kept W LW few e allowed σ h follows i
+    pub watched-wins : plans (last h) .value ≡ 2 → WinningKept W plans σ h
+    watched-wins = winning-kept W LW few plans allowed σ h follows i
 
-    pub watched-hopes : e (last h) .value ≡ 1 → PendingKept W e σ h
-    watched-hopes = pending-kept W LW few e allowed σ h follows i
+    pub watched-hopes : plans (last h) .value ≡ 1 → PendingKept W plans σ h
+    watched-hopes = pending-kept W LW few plans allowed σ h follows i
 
     pub watched-best : BestEffort W σ h
-    watched-best = best-effort W LW few e allowed σ h follows i
+    watched-best = best-effort W LW few plans allowed σ h follows i
 
     pub watched-none-better : (τ : Way W) → Better W τ σ h → ⊥
-    watched-none-better = nothing-better W LW few e allowed σ h follows i
+    watched-none-better = nothing-better W LW few plans allowed σ h follows i
