@@ -11,6 +11,7 @@ pub mod Advising
 pub mod Ranges
 pub mod Slips
 pub mod Checking
+pub mod Judging
 pub mod Looping
 pub mod Playing
 pub mod Effort

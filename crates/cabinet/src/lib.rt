@@ -4,4 +4,5 @@ pub mod calls;
 pub mod checks;
 pub mod goals;
 pub mod indexed;
+pub mod judges;
 pub mod place;

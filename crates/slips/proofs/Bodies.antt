@@ -224,7 +224,7 @@ module _ {s : List ℕ} {p v u : ℕ} (z : GoalSized s p v u) where
         rw size-is (answer-written s p before (z .clauses-counted) (z .few) e after (rw size-is at l) (rw size-is at x))
 
 -- no body is longer than 1,755 bytes
-passed : (x y z : Bool) → _≡_ {A = ℕ} (cond (not x) 14 (cond (not y) 15 (cond z 7 0))) 0 → (x ≡ true) × (y ≡ true)
+pub passed : (x y z : Bool) → _≡_ {A = ℕ} (cond (not x) 14 (cond (not y) 15 (cond z 7 0))) 0 → (x ≡ true) × (y ≡ true)
 passed true true z e = (refl, refl)
 passed true false z e = absurd (omega arith)
 passed false y z e = absurd (omega arith)

@@ -38,12 +38,17 @@ module _ {cs : List Clause} {p : ℕ} {g : List ℕ} (x : Body cs p g) where
       ap (λ (r : ℕ). reads (next-in g p) r ls) (x .rows q l h (low 0 (omega arith)))
       ∙ reads-same ls (steps cs q l) (steps-below cs q l h) (λ i k. low (suc i) (omega arith))
 
+  -- the mark that the bytes of a body give a trace is the automaton's
+  pub body-mark-after : (t : List ℕ) → LabelsBelow p t
+      → mark-in g (states cs) p (reads (next-in g p) 0 t) ≡ one (finals cs (reads (steps cs) 0 t))
+  body-mark-after t low =
+      rw (reads-same t 0 (some-states cs) low) (x .marks (reads (steps cs) 0 t) (reads-below cs 0 t (some-states cs)))
+
   -- the bytes of a body take a trace exactly when every clause holds on it
   pub body-accepts : (t : List ℕ) → Nonempty t → LabelsBelow p t
       → (mark-in g (states cs) p (reads (next-in g p) 0 t) ≡ 1) ↔ AllHold cs t
   body-accepts t n low =
-      rw (reads-same t 0 (some-states cs) low, x .marks (reads (steps cs) 0 t) (reads-below cs 0 t (some-states cs)))
-      (Iff·trans (one-iff (finals cs (reads (steps cs) 0 t))) (slips-accept cs t n))
+      rw (body-mark-after t low) (Iff·trans (one-iff (finals cs (reads (steps cs) 0 t))) (slips-accept cs t n))
 
 -- ---- the bytes that the call leaves
 
