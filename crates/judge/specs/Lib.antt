@@ -1,0 +1,3 @@
+-- What the program that judges a recorded run prints.
+pub mod Lines
+pub mod Tells
