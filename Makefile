@@ -28,7 +28,7 @@ c_object = $(TOOLS)/bin/clang --target=x86_64-linux-gnu -nostdinc $(addprefix -i
 c_link = $(KIT)/bin/rattle-link --target x86_64-unknown-linux-gnu --toolchain $(TOOLS)
 c_program = $(c_object) $(1) -o $(2).o && { $(c_link) -o $(2) $(2).o build/libcabinet.a 2>build/link.log || { cat build/link.log; exit 1; }; }
 install_listing = $(call install_script,listing,cabinet-list,install/run.in)
-ARM_NOTE = The archive is for x86-64, and so are the programs: cabinet-list and cabinet-check run them under the toolchain's emulator.
+ARM_NOTE = The archive is for x86-64, and so are the programs: cabinet-list, cabinet-check and cabinet-judge run them under the toolchain's emulator.
 endif
 
 # $(call install_script,PROGRAM,NAME,SCRIPT): the program goes to libexec, and a script that runs it to bin.
@@ -36,13 +36,13 @@ script_for = sed 's|@PROGRAM@|$(strip $(RUN) $(1))|' $(2) >$(3) && chmod 755 $(3
 install_script = mkdir -p $(DESTDIR)$(PREFIX)/libexec && cp target/bin/$(1) $(DESTDIR)$(PREFIX)/libexec/$(2) && \
   $(call script_for,$(PREFIX)/libexec/$(2),$(3),$(DESTDIR)$(PREFIX)/bin/$(2))
 
-.PHONY: test plan lib examples install bench soak tests try-examples try-listing try-inputs try-slips try-checks try-trembling need-rt need-cc need-cargo need-x86
+.PHONY: test plan lib examples install bench soak tests try-examples try-listing try-inputs try-slips try-checks try-trembling try-judge need-rt need-cc need-cargo need-x86
 
 # Everything, from nothing: the layout of the files, the calls from C, the listing, many inputs, and last the toolchain's gate.
 test: need-rt need-cc need-cargo
 	@rt fmt --check
 	@rm -f build/libcabinet.a
-	@$(MAKE) --no-print-directory try-examples try-inputs try-slips try-checks try-trembling try-listing
+	@$(MAKE) --no-print-directory try-examples try-inputs try-slips try-checks try-trembling try-judge try-listing
 	@rt ci
 
 # Proves what has changed, builds, and lists a job; with SLIPS=K, 0 to 3, its plans for up to K slips of the arm.
@@ -108,6 +108,12 @@ try-checks: tests
 try-trembling: tests
 	@$(TESTS) trembling
 
+try-judge: tests
+	@$(TESTS) judges
+	@rt check judge >build/judge.log 2>&1 || { cat build/judge.log; exit 1; }
+	@$(call script_for,$(CURDIR)/target/bin/judge,install/judge.in,build/cabinet-judge)
+	@sh tests/judging/run $(CURDIR)/build/cargo/release/cabinet-tests $(CURDIR)/build/cabinet-judge
+
 try-listing: tests
 	@rt check listing >build/plan.log 2>&1 || { cat build/plan.log; exit 1; }
 	@sh tests/listing/run $(CURDIR)/build/cargo/release/cabinet-tests $(RUN) $(CURDIR)/target/bin/listing
@@ -124,15 +130,16 @@ bench: need-x86 tests
 	@{ echo '# Speed'; echo; cat build/bench.md; } >docs/BENCH.md
 
 install: lib
-	@rt check listing compare >build/plan.log 2>&1 || { cat build/plan.log; exit 1; }
+	@rt check listing compare judge >build/plan.log 2>&1 || { cat build/plan.log; exit 1; }
 	@mkdir -p $(DESTDIR)$(PREFIX)/lib/pkgconfig $(DESTDIR)$(PREFIX)/include $(DESTDIR)$(PREFIX)/bin
 	@cp build/libcabinet.a $(DESTDIR)$(PREFIX)/lib/
 	@cp include/cabinet.h $(DESTDIR)$(PREFIX)/include/
 	@sed 's|@PREFIX@|$(PREFIX)|' cabinet.pc.in >$(DESTDIR)$(PREFIX)/lib/pkgconfig/cabinet.pc
 	@$(install_listing)
 	@$(call install_script,compare,cabinet-check,install/check.in)
+	@$(call install_script,judge,cabinet-judge,install/judge.in)
 	@[ -z "$(ARM_NOTE)" ] || echo "$(ARM_NOTE)"
-	@echo "installed the archive, the header, cabinet.pc, cabinet-list and cabinet-check under $(DESTDIR)$(PREFIX)"
+	@echo "installed the archive, the header, cabinet.pc, cabinet-list, cabinet-check and cabinet-judge under $(DESTDIR)$(PREFIX)"
 
 need-rt:
 	@command -v rt >/dev/null 2>&1 || { echo "Missing: the Rattle toolchain, that is the command rt on the PATH." >&2; exit 1; }

@@ -25,8 +25,8 @@
    The library needs no heap, keeps nothing between calls, and takes every input: what is bad is refused by number, the first fault
    first. A refusal changes nothing in a buffer that you lend.
 
-   On the stack planning takes up to 20 KiB, planning with an index 44 KiB, planning for slips of the arm 76 KiB, the check of a plan 88 KiB, and every other call less
-   than 1 KiB, whatever the job.
+   On the stack planning takes up to 20 KiB, planning with an index 44 KiB, planning for slips of the arm 76 KiB, the check of a plan 88 KiB, judging a run 32 KiB, and every
+   other call less than 1 KiB, whatever the job.
 
    What you owe: a pointer and its length describe memory of yours that holds that many bytes, or words of two bytes in an index and counters, for as long as the call runs; a length of
    0 wants a pointer that is not null all the same; the buffers of a call do not overlap; and nothing else writes to them during a call.
@@ -68,7 +68,8 @@ extern "C" {
 #define CABINET_GOAL_MAX 1755
 
 /* Numbers that say no; 0 is success. In a call that reads a job the first in this order that applies is the answer, though 12 and 13 share
-   one place, which the first bad record decides. In `cabinet_goal` 14 and 15 come before 7. */
+   one place, which the first bad record decides. In `cabinet_goal` 14 and 15 come before 7, and `cabinet_judge`, which reads no job,
+   gives 19 to 22 in their order. */
 enum cabinet_refusal {
   CABINET_OK = 0,
   CABINET_SHORT = 1,       /* the job is under 16 bytes */
@@ -87,7 +88,11 @@ enum cabinet_refusal {
   CABINET_OUTCOME = 11,    /* no record has this state, action and outcome */
   CABINET_NO_CLAUSES = 14, /* no clause, more than three, or a length that is no multiple of 3 */
   CABINET_CLAUSE = 15,     /* P above 6, a kind above 3, a proposition not below P, or b unlike a in kinds 0 and 1 */
-  CABINET_WRONG = 16       /* an entry of the plan is wrong; `state` and `goal` are the lowest such place */
+  CABINET_WRONG = 16,      /* an entry of the plan is wrong; `state` and `goal` are the lowest such place */
+  CABINET_TRACE = 19,      /* the trace is empty or has more than 64 labels */
+  CABINET_FORMULA = 20,    /* the formula is empty, has more than 64 bytes, is malformed, has bytes left over, or an atom above 5 */
+  CABINET_DEEP = 21,       /* more than three operators among until, eventually and always on one path of the formula */
+  CABINET_LETTER = 22      /* a label of the trace is 64 or more */
 };
 
 /* The kinds of a clause, over the propositions a and b. Each is read over the labels of the states visited so far, the first one included. */
@@ -97,6 +102,21 @@ enum cabinet_kind {
   CABINET_RESPONSE = 2,  /* whenever a, then or later b */
   CABINET_PRECEDENCE = 3 /* no b before the first a, which may come together with it; or never b */
 };
+
+/* The nodes of a formula, a byte each, an operator before its parts; 0 to 5 are atoms, the propositions of a label. */
+enum cabinet_node {
+  CABINET_NOT = 16,
+  CABINET_AND = 17,
+  CABINET_NEXT = 18,       /* there is a next label, and the part holds there */
+  CABINET_UNTIL = 19,      /* the second part holds at some label from here on, and the first at all before that one */
+  CABINET_WEAK_NEXT = 20,  /* the part holds at the next label, if there is one */
+  CABINET_EVENTUALLY = 21, /* the part holds at some label from here on */
+  CABINET_ALWAYS = 22      /* the part holds at every label from here on */
+};
+
+/* The longest formula and the longest trace. */
+#define CABINET_FORMULA_MAX 64
+#define CABINET_TRACE_MAX 64
 
 /* The value of a place. */
 enum cabinet_value {
@@ -131,6 +151,10 @@ typedef struct {
 typedef struct {
   uint32_t refusal, state, goal, record;
 } cabinet_checked;
+
+typedef struct {
+  uint32_t refusal, holds;
+} cabinet_judged;
 
 /* Plans the job into the buffer: entry s * Q + q, four bytes, says of state s with goal state q its value, its action (255: none) and
    its number, low byte first. Bytes beyond the plan stay as they are, and a refusal changes nothing in the plan buffer. Gives 1 to 7, 12, 13. */
@@ -191,6 +215,12 @@ cabinet_planned cabinet_plan_slips(const uint8_t *job, size_t job_len, uint32_t 
    its number is below (K + 1) * S * Q. Gives 1 to 6, 12, 13, 18, 7, 9 (also where `left` is above K) and 10, in this order. */
 cabinet_advised cabinet_advice_slips(const uint8_t *job, size_t job_len, uint32_t slips, const uint8_t *plan, size_t plan_len, uint32_t state,
                                      uint32_t goal, uint32_t left);
+
+/* Judges a recorded run: whether a goal held on a log of labels. The formula has 1 to 64 bytes, one a node (`cabinet_node`), an operator before its parts; the
+   trace 1 to 64 labels, without the mark of a busy state. `holds` is 1 where the formula holds at the first label, and 0 where it does not, or on a refusal.
+   A clause of slips is the formula 21 a (existence), 22 16 a (absence), 22 16 17 a 16 21 b (response), 16 17 16 19 16 b a 16 22 16 b (precedence), and
+   clauses are joined by 17: the answer is then that of the Goal body which `cabinet_goal` writes. Gives 19 to 22. */
+cabinet_judged cabinet_judge(const uint8_t *formula, size_t formula_len, const uint8_t *trace, size_t trace_len);
 
 /* In short:
 

@@ -2,7 +2,7 @@
    and ends with status 0 and the count of calls when all answers were right. At the first wrong one it says which call of which input it was, and ends with status 1.
 
    A lent buffer ends at a page that can be neither read nor written, or begins right after one. The job's pages can only be read, and so can the
-   plan's but in a call that is to write it, and the index's and the counters'. Slips are lent where a job is, and a Goal body is written where a plan is.
+   plan's but in a call that is to write it, and the index's and the counters'. Slips and formulas are lent where a job is, traces where a plan is, and a Goal body is written there.
    The plans for slips of the arm, one for each count, have memory of their own. `caller N`, N from 0 to 14, steps over one of these fences. */
 
 #define _DEFAULT_SOURCE
@@ -18,7 +18,7 @@
 
 enum { PAGE = 4096, JOB_SIZE = 28 * PAGE, PLAN_SIZE = 17 * PAGE, INDEX_SIZE = 5 * PAGE, COUNTERS_SIZE = 130 * PAGE, LAYERS_SIZE = 65 * PAGE };
 enum { INPUT, DUE, LEND, PLAN, START, FOLLOW, ADVICE, TIME, GOAL, DUE_INDEX, INDEXED, CHECK, TIME_START, TIME_FOLLOW, TIME_CHECK,
-       DUE_LAYERS, LEND_LAYERS, PLAN_SLIPS, ADVICE_SLIPS, TIME_SLIPS };
+       DUE_LAYERS, LEND_LAYERS, PLAN_SLIPS, ADVICE_SLIPS, TIME_SLIPS, JUDGE, JUDGE_ALL, TIME_JUDGE };
 
 /* A line: what to do, the side of the fence (1: buffers begin after it), how many bytes come after it, the call's figures, the answer that is due. */
 static struct {
@@ -226,6 +226,38 @@ static cabinet_planned plan_slips(const uint8_t *job, const uint32_t *f) {
   return planned;
 }
 
+/* The time of so many judgements of the formula over the trace that was lent. */
+static void say_judge_time(const uint8_t *formula, uint32_t times) {
+  const uint8_t *trace = place(&plans, lent_len);
+  struct timespec from, to;
+  clock_gettime(CLOCK_MONOTONIC, &from);
+  for (; times > 0; times--) cabinet_judge(formula, job_len, trace, lent_len);
+  clock_gettime(CLOCK_MONOTONIC, &to);
+  printf("%lld\n", (to.tv_sec - from.tv_sec) * 1000000000LL + (to.tv_nsec - from.tv_nsec));
+  fflush(stdout);
+}
+
+/* Judges the formula over every trace of labels below a bound, up to a length, in counting order; for each a byte that is due follows the line. */
+static void judge_all(const uint8_t *formula) {
+  static uint8_t due[PLAN_SIZE];
+  const uint32_t labels = line.figures[0], longest = line.figures[1];
+  uint32_t at = 0, count = 1;
+  if (line.length > sizeof due || fread(due, 1, line.length, stdin) != line.length) fail("a line without its bytes");
+  set_rights(&plans, PROT_READ | PROT_WRITE);
+  for (uint32_t length = 1; length <= longest; length++) {
+    uint8_t *trace = place(&plans, length);
+    count *= labels;
+    for (uint32_t number = 0; number < count; number++, at++) {
+      for (uint32_t i = length, left = number; i > 0; i--, left /= labels) trace[i - 1] = (uint8_t)(left % labels);
+      cabinet_judged judged = cabinet_judge(formula, job_len, trace, length);
+      uint32_t answer[] = {judged.refusal, judged.holds}, should[] = {line.due[0], at < line.length ? due[at] : 2};
+      if (memcmp(answer, should, sizeof answer) != 0) wrong("answer", answer, should, 2);
+      calls++, all_calls++;
+    }
+  }
+  if (at != line.length) fail("another count of traces");
+}
+
 static void call(void) {
   const uint8_t *job = place(&jobs, job_len), *plan = place(&plans, lent_len);
   const uint32_t *f = line.figures;
@@ -254,6 +286,10 @@ static void call(void) {
     const uint8_t *lent = place(&layers, lent_layers_len);
     cabinet_advised say = cabinet_advice_slips(job, job_len, f[0], lent, lent_layers_len, f[1], f[2], f[3]);
     answer[0] = say.refusal, answer[1] = say.value, answer[2] = say.action, answer[3] = say.number, answer[4] = say.record;
+  } else if (line.what == JUDGE) {
+    set_rights(&plans, PROT_READ);
+    cabinet_judged judged = cabinet_judge(job, job_len, plan, lent_len);
+    answer[0] = judged.refusal, answer[1] = judged.holds;
   } else if (line.what == ADVICE) {
     cabinet_advised say = cabinet_advice(job, job_len, plan, lent_len, f[0], f[1]);
     answer[0] = say.refusal, answer[1] = say.value, answer[2] = say.action, answer[3] = say.number, answer[4] = say.record;
@@ -308,6 +344,8 @@ int main(int words, char **word) {
       break;
     case LEND_LAYERS: lent_layers_len = take(&layers); break;
     case TIME_SLIPS: say_slips_time(place(&jobs, job_len), line.figures[0], line.figures[1]); break;
+    case JUDGE_ALL: judge_all(place(&jobs, job_len)); break;
+    case TIME_JUDGE: say_judge_time(place(&jobs, job_len), line.figures[0]); break;
     case TIME_CHECK: say_check_time(place(&jobs, job_len), line.figures[0]); break;
     case TIME: say_time(place(&jobs, job_len), line.figures[0], line.figures[1], line.figures[2]); break;
     case TIME_START:

@@ -51,6 +51,9 @@ enum What {
     PlanSlips,
     AdviceSlips,
     TimeSlips,
+    Judge,
+    JudgeAll,
+    TimeJudge,
 }
 
 /// What went wrong: the number of the input, which of its calls it was, and how.
@@ -135,7 +138,7 @@ impl Cases {
         self.line(What::DueIndex, Side::Begin, &bytes, [counters as u32, 0, 0, 0], [0; 5]);
     }
 
-    /// The bytes that advice and the check get as their plan.
+    /// The bytes that advice and the check get as their plan, and judging as its trace.
     pub fn lend(&mut self, side: Side, plan: &[u8]) {
         self.line(What::Lend, side, plan, [0; 4], [0; 5]);
     }
@@ -169,10 +172,22 @@ impl Cases {
             Call::AdviceSlips { slips, place: [state, goal, left], side, .. } => {
                 (What::AdviceSlips, side, [slips, state, goal, left])
             }
+            Call::Judge { side, .. } => (What::Judge, side, [0; 4]),
         };
         self.line(what, side, &[], figures, due);
         self.calls.push(call);
         self.made += 1;
+    }
+
+    /// Judges the formula over every trace of labels below a bound, up to a length, in counting order: a byte for each is due.
+    pub fn judge_all(&mut self, side: Side, labels: u32, longest: u32, refusal: u32, due: &[u8]) {
+        self.line(What::JudgeAll, side, due, [labels, longest, 0, 0], [refusal, 0, 0, 0, 0]);
+        self.made += due.len() as u64;
+    }
+
+    /// The seconds that so many judgements of the formula over the trace that was lent take.
+    pub fn time_judge(&mut self, side: Side, times: u32) -> f64 {
+        self.timed(What::TimeJudge, side, [times, 0, 0, 0])
     }
 
     /// The seconds that so many calls of planning take, by the second engine where it is asked for, or of writing a goal over so many propositions.
@@ -198,6 +213,11 @@ impl Cases {
     /// The seconds that so many calls of planning for so many slips take.
     pub fn time_slips(&mut self, side: Side, times: u32, slips: u32) -> f64 {
         self.timed(What::TimeSlips, side, [times, slips, 0, 0])
+    }
+
+    /// How many calls there were in all.
+    pub fn made(&self) -> u64 {
+        self.made
     }
 
     fn timed(&mut self, what: What, side: Side, figures: [u32; 4]) -> f64 {

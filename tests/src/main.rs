@@ -5,6 +5,7 @@ mod brute;
 mod cases;
 mod check;
 mod checks;
+mod judging;
 mod listings;
 mod make;
 mod oracle;
@@ -33,6 +34,8 @@ cabinet-tests slips [SEED]         goals from slips, every body byte by byte and
 cabinet-tests check JOB PLAN       the line that the oracle prints of these files
 cabinet-tests checks [SEED]        plans from elsewhere, every tie and many changes, judged place for place
 cabinet-tests trembling [SEED]     slips of the arm: every larger place, every count of slips, short and long buffers
+cabinet-tests judges [SEED]        recorded runs, all short ones and many more, beside an evaluator over trees
+cabinet-tests judge                the line that the oracle prints of the two lines on standard input
 cabinet-tests listings WORDS       the listing program, started by these words, beside the oracle's listing";
 
 /// Tries the inputs with these numbers, prints the counts and says whether everything has come up.
@@ -108,6 +111,13 @@ fn command(words: &[String]) -> Option<()> {
                 std::process::exit(1);
             }
         }
+        "judges" => {
+            if !judging::agree(seed_at(1)?) {
+                println!("but not every answer has come up with every kind of formula");
+                std::process::exit(1);
+            }
+        }
+        "judge" => println!("{}", judging::told()),
         "list" => list(),
         "check" => {
             let file = |index: usize| Some(std::fs::read(words.get(index)?).expect("the file can be read"));

@@ -71,6 +71,11 @@ pub enum Call {
         place: [u32; 3],
         side: Side,
     },
+    /// A formula stands in the job's place, and a trace in the plan's.
+    Judge {
+        trace_len: usize,
+        side: Side,
+    },
 }
 
 impl Display for Call {
@@ -100,6 +105,7 @@ impl Display for Call {
                 write!(to, "cabinet_advice_slips, slips {slips}, plan_len {plan_len}, state {state}, goal {goal}, ")?;
                 write!(to, "left {left}; {side}")
             }
+            Call::Judge { trace_len, side } => write!(to, "cabinet_judge, trace_len {trace_len}; {side}"),
         }
     }
 }

@@ -1,6 +1,7 @@
 //! Times the library's planning beside the same method in plain Rust and beside the oracle, in one run; and its other calls alone.
 
 mod checks;
+mod judges;
 mod plain;
 mod slips;
 mod table;
@@ -143,6 +144,8 @@ pub fn bench(date: &str) {
     let short = jobs.each_ref().map(|(name, job, repeats)| (*name, job.clone(), *repeats));
     let short: Vec<_> = short.into_iter().filter(|(name, ..)| !name.starts_with("deepest")).collect();
     slips::print(cases, &short);
+    println!();
+    judges::print(cases);
     println!();
     println!(
         "The longest Goal body from slips, three clauses over six propositions, is written in {}.",

@@ -17,6 +17,10 @@ pub const CLAUSE: u32 = 15;
 pub const WRONG: u32 = 16;
 pub const MEMORY: u32 = 17;
 pub const SLIPS: u32 = 18;
+pub const TRACE: u32 = 19;
+pub const FORMULA: u32 = 20;
+pub const DEEP: u32 = 21;
+pub const LETTER: u32 = 22;
 
 /// Why a call says no; the record is 0 unless the number is FIELD or ORDER.
 #[derive(Clone, Copy, Debug, PartialEq, Eq)]

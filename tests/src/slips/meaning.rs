@@ -60,13 +60,13 @@ fn holds(trace: &[u8], f: &Formula, i: usize) -> bool {
 }
 
 /// Whether the automaton of a body takes the trace, from goal state 0.
-fn takes(body: &[u8], states: usize, labels: usize, trace: &[u8]) -> bool {
+pub fn takes(body: &[u8], states: usize, labels: usize, trace: &[u8]) -> bool {
     let end = trace.iter().fold(0, |state, &label| body[state * labels + usize::from(label)].into());
     body[states * labels + end] == 1
 }
 
-/// Every nonempty trace of labels below a bound, up to a length.
-fn traces(labels: u8, longest: usize) -> Vec<Vec<u8>> {
+/// Every nonempty trace of labels below a bound, up to a length, in counting order.
+pub fn traces(labels: u8, longest: usize) -> Vec<Vec<u8>> {
     let mut all: Vec<Vec<u8>> = (0..labels).map(|label| vec![label]).collect();
     let mut from = 0;
     for _ in 1..longest {

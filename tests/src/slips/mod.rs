@@ -1,7 +1,7 @@
 //! Goals from slips: every body byte by byte beside an independent writer's, and that writer's beside the meaning of formulas.
 
-mod meaning;
-mod writer;
+pub mod meaning;
+pub mod writer;
 
 use crate::cases::{self, Cases, Side};
 use crate::oracle::{CLAUSE, NO_CLAUSES, ROOM};
@@ -74,7 +74,7 @@ impl Desk {
 }
 
 /// Every clause over so many propositions.
-fn clauses(propositions: u32) -> Vec<Clause> {
+pub fn clauses(propositions: u32) -> Vec<Clause> {
     let all = 0..propositions as u8;
     let pairs = all.clone().flat_map(|a| all.clone().map(move |b| (a, b)));
     (0..4)
@@ -88,7 +88,7 @@ fn longer(slips: &[Vec<Clause>], clauses: &[Clause]) -> Vec<Vec<Clause>> {
 }
 
 /// All slips of up to so many clauses.
-fn all_slips(clauses: &[Clause], most: usize) -> Vec<Vec<Clause>> {
+pub fn all_slips(clauses: &[Clause], most: usize) -> Vec<Vec<Clause>> {
     let mut last = vec![Vec::new()];
     let mut all = Vec::new();
     for _ in 0..most {
