@@ -194,12 +194,13 @@ static void say_move_time(const uint8_t *job) {
   fflush(stdout);
 }
 
-/* The time of so many checks of the plan that was lent. */
+/* The time of so many checks of the plan that was lent, or of judgements of the formula over the trace that was. */
 static void say_check_time(const uint8_t *job, uint32_t times) {
   const uint8_t *plan = place(&plans, lent_len);
   struct timespec from, to;
   clock_gettime(CLOCK_MONOTONIC, &from);
-  for (; times > 0; times--) cabinet_check(job, job_len, plan, lent_len);
+  for (; line.what == TIME_CHECK && times > 0; times--) cabinet_check(job, job_len, plan, lent_len);
+  for (; times > 0; times--) cabinet_judge(job, job_len, plan, lent_len);
   clock_gettime(CLOCK_MONOTONIC, &to);
   printf("%lld\n", (to.tv_sec - from.tv_sec) * 1000000000LL + (to.tv_nsec - from.tv_nsec));
   fflush(stdout);
@@ -224,17 +225,6 @@ static cabinet_planned plan_slips(const uint8_t *job, const uint32_t *f) {
   cabinet_planned planned = cabinet_plan_slips(job, job_len, f[2], lent, f[0]);
   same_beside("plans", &layers, f[0], due_layers, due_layers_len, planned.refusal);
   return planned;
-}
-
-/* The time of so many judgements of the formula over the trace that was lent. */
-static void say_judge_time(const uint8_t *formula, uint32_t times) {
-  const uint8_t *trace = place(&plans, lent_len);
-  struct timespec from, to;
-  clock_gettime(CLOCK_MONOTONIC, &from);
-  for (; times > 0; times--) cabinet_judge(formula, job_len, trace, lent_len);
-  clock_gettime(CLOCK_MONOTONIC, &to);
-  printf("%lld\n", (to.tv_sec - from.tv_sec) * 1000000000LL + (to.tv_nsec - from.tv_nsec));
-  fflush(stdout);
 }
 
 /* Judges the formula over every trace of labels below a bound, up to a length, in counting order; for each a byte that is due follows the line. */
@@ -345,7 +335,7 @@ int main(int words, char **word) {
     case LEND_LAYERS: lent_layers_len = take(&layers); break;
     case TIME_SLIPS: say_slips_time(place(&jobs, job_len), line.figures[0], line.figures[1]); break;
     case JUDGE_ALL: judge_all(place(&jobs, job_len)); break;
-    case TIME_JUDGE: say_judge_time(place(&jobs, job_len), line.figures[0]); break;
+    case TIME_JUDGE:
     case TIME_CHECK: say_check_time(place(&jobs, job_len), line.figures[0]); break;
     case TIME: say_time(place(&jobs, job_len), line.figures[0], line.figures[1], line.figures[2]); break;
     case TIME_START:
