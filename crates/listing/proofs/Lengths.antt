@@ -28,10 +28,10 @@ use Rattle.cabinet.proofs.Advising.{allowed-shaped}
 use Rattle.game.proofs.Following.{right-allowed}
 use Rattle.text.specs.Lines.{decimal, bytes, value-word, action-word, line-of, entry-line, start-line, names-record, refusal-line}
 use Rattle.text.proofs.Digits.{decimal-length}
+use Rattle.text.proofs.Repeating.{short-each}
 use Rattle.text.proofs.Lengths.{short-value, short-refusal, fault-few, put-front}
 use Rattle.listing.specs.Listing.{first-line, place-line, lines, Prints, refuses, lists}
 use Rattle.listing.specs.Told.{Printed}
-use Rattle.listing.proofs.Telling.{each-last}
 use Rattle.listing.proofs.Listings.{keeps}
 
 -- ---- an entry's words
@@ -78,13 +78,6 @@ short-entry s q e hs hq f =
 short-start : (s q v : ℕ) → s < 512 → q < 32 → length (start-line s q v) ≤ 21
 short-start s q v hs hq =
     simp length-append (omega (arith, decimal-length s 2 (omega arith), decimal-length q 1 (omega arith), short-value v))
-
-short-each : (f : ℕ → List ℕ) (k n : ℕ) → ((i : ℕ) → i < n → length (f i) ≤ k) → length (each (upto n) f) ≤ n * k
-short-each f k zero h = omega arith
-short-each f k (suc n) h =
-    let last : length (each (upto n ++ (n ∷ [])) f) ≡ length (each (upto n) f) + length (f n) =
-    ap length (each-last f (upto n) n) ∙ length-append (each (upto n) f) (f n) in
-    omega (arith, last, suc-mul n k, short-each f k n (λ i l. h i (omega arith)), h n (omega arith))
 
 module _ {b before after : List ℕ} (done : Planning b before (only 0) after) where
   entry-few : (x : Place) → Inside (arena (said b)) x → Few (planned-entry (said b) after x)

@@ -1,8 +1,7 @@
--- The text of an answer, by the case that was matched; and the loops over states and goal states.
-use Prim.Native.Nat.{ℕ, zero, suc, _+_, _≤_, _<_}
-use mathlib.Core.List.{List, [], _∷_, _++_, append-assoc, append-nil}
+-- The text of an answer, by the case that was matched; and lines that are the same, place by place.
+use Prim.Native.Nat.{ℕ, zero, suc, _<_}
+use mathlib.Core.List.{List, _++_}
 use mathlib.Core.Path.{_≡_, refl, sym, ap, subst, _∙_}
-use native.Mathlib.Numerals.{add-one}
 use native.Mathlib.Omega.{arith}
 use lib.Dec.{eqb·suc-zero}
 use Rattle.game.specs.Below.{upto, each}
@@ -16,7 +15,7 @@ use Rattle.cabinet.specs.declared.place.Moved.{Moved}
 use Rattle.cabinet.specs.declared.place.Place.{Place}
 use Rattle.text.specs.PutText.{PutText}
 use Rattle.text.specs.Lines.{refusal-line}
-use Rattle.text.proofs.Putting.{put-then}
+use Rattle.text.proofs.Repeating.{each-last}
 use Rattle.listing.specs.Listing.{lines}
 use Rattle.listing.specs.Told.{or-refused, advice-line, value-line, moved-line}
 
@@ -56,15 +55,6 @@ moved-says b p x k = refl
 
 -- ---- the numbers below n in order
 
-pub each-last : (f : ℕ → List ℕ) (is : List ℕ) (i : ℕ) → each (is ++ (i ∷ [])) f ≡ each is f ++ f i
-each-last f [] i = append-nil (f i)
-each-last f (k ∷ is) i = ap (λ (t : List ℕ). f k ++ t) (each-last f is i) ∙ sym (append-assoc (f k) (each is f) (f i))
-
--- one turn of a loop that puts a text for each number below n
-pub put-next : (f : ℕ → List ℕ) (k : ℕ) {l m n : List ℕ} {at p q : ℕ} → PutText l at (each (upto k) f) m p → PutText m p (f k) n q
-    → PutText l at (each (upto (k + 1)) f) n q
-put-next f k a b = rw (add-one k, each-last f (upto k) k) (put-then a b)
-
 each-same : (f g : ℕ → List ℕ) (n : ℕ) → ((k : ℕ) → k < n → f k ≡ g k) → each (upto n) f ≡ each (upto n) g
 each-same f g zero h = refl
 each-same f g (suc n) h =
@@ -75,10 +65,3 @@ each-same f g (suc n) h =
 pub lines-same : (f g : ℕ → ℕ → List ℕ) (S Q : ℕ) → ((s q : ℕ) → s < S → q < Q → f s q ≡ g s q) → lines f S Q ≡ lines g S Q
 lines-same f g S Q h =
     each-same (λ s. each (upto Q) (f s)) (λ s. each (upto Q) (g s)) S (λ s hs. each-same (f s) (g s) Q (λ q hq. h s q hs hq))
-
--- the loop's end
-pub put-upto : (f : ℕ → List ℕ) (k n : ℕ) {l m : List ℕ} {at p : ℕ} → k ≤ n → n ≤ k → PutText l at (each (upto k) f) m p
-    → PutText l at (each (upto n) f) m p
-put-upto f k n {l} {m} {at} {p} a b put =
-    let e : k ≡ n = omega arith in
-    subst (λ (i : ℕ). PutText l at (each (upto i) f) m p) e put

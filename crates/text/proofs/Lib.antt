@@ -1,5 +1,6 @@
 -- The laws that belong to no one function.
 pub mod Putting
+pub mod Repeating
 pub mod Lengths
 pub mod Digits
 pub mod Examples

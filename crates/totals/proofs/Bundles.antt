@@ -1,5 +1,5 @@
 -- The contents of a bundle: what each answer of judging them says, and that they are judged exactly.
-use Prim.Native.Nat.{ℕ, zero, suc, _+_, _-_, _*_, _/_, _≤_, _<_}
+use Prim.Native.Nat.{ℕ, zero, suc, _+_, _*_, _≤_, _<_}
 use mathlib.Core.Bool.{Bool, true, false, cond, not}
 use mathlib.Core.List.{List, [], _∷_, _++_, append-assoc, append-nil}
 use mathlib.Core.Logic.{_↔_, _≢_, _⊎_, inl, inr}
@@ -13,40 +13,37 @@ use lib.Seq.{take-at, drop-at, length-take-le}
 use Rattle.game.proofs.Tests.{and-iff, eqb-iff, every-iff, every-more, every-stops}
 use Rattle.game.specs.Below.{every-below}
 use Rattle.rules.specs.Form.{word}
-use Rattle.totals.specs.Bundle.{double, entries, offset, size, contents-size, due, Bundle, job, jobs-from, jobs, contents-long, in-order, contents-fit}
+use Rattle.totals.specs.Bundle.{double, entries, offset, size, contents-size, due, Bundle, job, jobs-from, jobs, entries-counted, in-order, contents-fit}
 
--- ---- the length of the contents, by their first two bytes
+-- ---- the count of the first two bytes
 
 module _ (h : List ℕ) {n : ℕ} (long : 2 ≤ length h) (is : n ≡ entries h) where
-  pub long-none : n < 1 → 0 ≡ contents-long h
-  long-none l = rw (le-ltb (length h) 2 long, lt-ltb (entries h) 1 (omega arith))
+  pub counted-many : 64 < n → 0 ≡ entries-counted h
+  counted-many l = rw (le-ltb (length h) 2 long, lt-ltb 64 (entries h) (omega arith))
 
-  pub long-many : 1 ≤ n → 64 < n → 0 ≡ contents-long h
-  long-many s l = rw (le-ltb (length h) 2 long, le-ltb (entries h) 1 (omega arith), lt-ltb 64 (entries h) (omega arith))
+  pub counted-is : n ≤ 64 → n ≡ entries-counted h
+  counted-is l = rw (le-ltb (length h) 2 long, le-ltb 64 (entries h) (omega arith)) is
 
-  pub long-is : 1 ≤ n → n ≤ 64 → 2 + 8 * n ≡ contents-long h
-  long-is s l = rw (le-ltb (length h) 2 long, le-ltb (entries h) 1 (omega arith), le-ltb 64 (entries h) (omega arith), is)
+-- what it says that some are counted
+record Counted (h : List ℕ) : Type 0 where
+  counted : 2 ≤ length h
+  some : 1 ≤ entries h
+  few : entries h ≤ 64
+  is : entries-counted h ≡ entries h
 
--- what it says that there is one
-pub record Long (h : List ℕ) : Type 0 where
-  pub counted : 2 ≤ length h
-  pub some : 1 ≤ entries h
-  pub few : entries h ≤ 64
-  pub is : contents-long h ≡ contents-size (entries h)
-
-pub long-back : (h : List ℕ) → contents-long h ≢ 0 → Long h
-long-back h d = go (ltb (length h) 2) refl (ltb (entries h) 1) refl (ltb 64 (entries h)) refl
+counted-back : (h : List ℕ) → entries-counted h ≢ 0 → Counted h
+counted-back h d = go (ltb (length h) 2) refl (ltb 64 (entries h)) refl
   where
-    go : (x : Bool) → ltb (length h) 2 ≡ x → (y : Bool) → ltb (entries h) 1 ≡ y → (z : Bool) → ltb 64 (entries h) ≡ z → Long h
-    go true e y f z g = absurd (d (rw e))
-    go false e true f z g = absurd (d (rw (e, f)))
-    go false e false f true g = absurd (d (rw (e, f, g)))
-    go false e false f false g = record {
-      counted = ltb-false (length h) 2 e;
-      some = ltb-false (entries h) 1 f;
-      few = ltb-false 64 (entries h) g;
-      is = rw (e, f, g);
-    }
+    go : (x : Bool) → ltb (length h) 2 ≡ x → (y : Bool) → ltb 64 (entries h) ≡ y → Counted h
+    go true e y f = absurd (d (rw e))
+    go false e true f = absurd (d (rw (e, f)))
+    go false e false f =
+        let same : entries-counted h ≡ entries h = rw (e, f) in
+        record { counted = ltb-false (length h) 2 e; some = some-of (entries h) (λ z. d (same ∙ z)); few = ltb-false 64 (entries h) f; is = same }
+      where
+        some-of : (n : ℕ) → n ≢ 0 → 1 ≤ n
+        some-of zero z = absurd (z refl)
+        some-of (suc n) z = omega arith
 
 -- ---- the contents alone
 
@@ -68,21 +65,22 @@ some-iff n = (λ e. eqb-false n 0 (not-true (eqb n 0) e), λ d. rw (ne-eqb n 0 d
 pub contents-iff : (h : List ℕ) → (contents-fit h ≡ true) ↔ Contents h
 contents-iff h = (there, back)
   where
-    parts : (contents-fit h ≡ true) ↔ ((contents-long h ≢ 0) × ((length h ≡ contents-long h) × ((i : ℕ) → i < entries h → offset h i ≡ due h i)))
+    parts : (contents-fit h ≡ true)
+        ↔ ((entries-counted h ≢ 0) × ((length h ≡ contents-size (entries-counted h)) × ((i : ℕ) → i < entries h → offset h i ≡ due h i)))
     parts =
-        and-iff (some-iff (contents-long h))
-        (and-iff (eqb-iff (length h) (contents-long h)) (every-iff (begins-due h) (λ i. eqb-iff (offset h i) (due h i)) (entries h)))
+        and-iff (some-iff (entries-counted h))
+        (and-iff (eqb-iff (length h) (contents-size (entries-counted h))) (every-iff (begins-due h) (λ i. eqb-iff (offset h i) (due h i)) (entries h)))
 
     there : contents-fit h ≡ true → Contents h
     there e =
         let (d, (l, o)) = parts .0 e in
-        let g = long-back h d in
-        record { counted = g .counted; some = g .some; few = g .few; whole = l ∙ g .is; offsets = o }
+        let g = counted-back h d in
+        record { counted = g .counted; some = g .some; few = g .few; whole = l ∙ ap contents-size (g .is); offsets = o }
 
     back : Contents h → contents-fit h ≡ true
     back c =
-        let e : 2 + 8 * entries h ≡ contents-long h = long-is h (c .counted) refl (c .some) (c .few) in
-        parts .1 (λ z. omega arith, (omega (arith, c .whole), c .offsets))
+        let e : entries h ≡ entries-counted h = counted-is h (c .counted) refl (c .few) in
+        parts .1 (λ z. omega (arith, c .some), (c .whole ∙ ap contents-size e, c .offsets))
 
 -- ---- the contents at the front of a bundle
 
@@ -145,22 +143,22 @@ module _ (h r : List ℕ) where
         }
 
 -- The bytes that the first two count are judged exactly: they fit, and the bundle ends where its last entry does, where it is a bundle.
-pub judged : (b : List ℕ) → Bundle b ↔ ((contents-fit (take (contents-long b) b) ≡ true) × (length b ≡ due b (entries b)))
+pub judged : (b : List ℕ) → Bundle b ↔ ((contents-fit (take (contents-size (entries-counted b)) b) ≡ true) × (length b ≡ due b (entries b)))
 judged b = (there, back)
   where
     h : List ℕ
-    h = take (contents-long b) b
+    h = take (contents-size (entries-counted b)) b
 
     r : List ℕ
-    r = drop (contents-long b) b
+    r = drop (contents-size (entries-counted b)) b
 
     both : h ++ r ≡ b
-    both = take-append-drop (contents-long b) b
+    both = take-append-drop (contents-size (entries-counted b)) b
 
     there : Bundle b → (contents-fit h ≡ true) × (length b ≡ due b (entries b))
     there g =
-        let e : 2 + 8 * entries b ≡ contents-long b = long-is b (g .counted) refl (g .some) (g .few) in
-        let l : length h ≡ contents-long b = length-take-le (contents-long b) b (omega (arith, g .whole)) in
+        let e : entries b ≡ entries-counted b = counted-is b (g .counted) refl (g .few) in
+        let l : length h ≡ contents-size (entries-counted b) = length-take-le (contents-size (entries-counted b)) b (omega (arith, g .whole)) in
         let n : entries h ≡ entries b = sym (word-front h r 0 (omega arith)) ∙ ap entries both in
         let w : length h ≡ contents-size (entries h) = omega arith in
         (contents-iff h .1 (bundle-iff h r w .0 (subst Bundle (sym both) g) .0), g .ends)
@@ -243,26 +241,27 @@ module _ (h : List ℕ) (i at : ℕ) (x : Bool) (is : at ≡ due h i) (test : x 
 
 -- ---- the contents by each test
 
-module _ (h : List ℕ) {n : ℕ} (is : n ≡ contents-long h) where
+module _ (h : List ℕ) {n : ℕ} (is : n ≡ entries-counted h) where
   pub fit-none : n ≡ 0 → false ≡ contents-fit h
-  fit-none e = rw (eq-eqb (contents-long h) 0 (sym is ∙ e))
+  fit-none e = rw (eq-eqb (entries-counted h) 0 (sym is ∙ e))
 
   module _ (some : n ≢ 0) where
-    long-some : contents-long h ≢ 0
-    long-some e = some (is ∙ e)
+    counted-some : entries-counted h ≢ 0
+    counted-some e = some (is ∙ e)
 
-    pub fit-other : length h ≢ n → false ≡ contents-fit h
-    fit-other d = rw (ne-eqb (contents-long h) 0 long-some, ne-eqb (length h) (contents-long h) (λ e. d (e ∙ sym is)))
+    pub fit-other : length h ≢ contents-size n → false ≡ contents-fit h
+    fit-other d =
+        rw (
+          ne-eqb (entries-counted h) 0 counted-some,
+          ne-eqb (length h) (contents-size (entries-counted h)) (λ e. d (e ∙ ap contents-size (sym is))),
+        )
 
-    pub fit-order : length h ≡ n → {x : Bool} → x ≡ in-order h → x ≡ contents-fit h
-    fit-order l e = rw (ne-eqb (contents-long h) 0 long-some, eq-eqb (length h) (contents-long h) (l ∙ is)) e
+    pub fit-order : length h ≡ contents-size n → {x : Bool} → x ≡ in-order h → x ≡ contents-fit h
+    fit-order l e =
+        rw (
+          ne-eqb (entries-counted h) 0 counted-some,
+          eq-eqb (length h) (contents-size (entries-counted h)) (l ∙ ap contents-size is),
+        ) e
 
-    -- what the entries are asked with
-    pub asked : length h ≡ n → ((n - 2) / 8 ≤ 64) × (((n - 2) / 8 ≡ entries h) × (contents-size ((n - 2) / 8) ≤ length h))
-    asked l = let g = long-back h long-some in (omega (arith, g .is, g .few), (omega (arith, g .is), omega (arith, g .is)))
-
-    pub two : 2 ≤ n
-    two = let g = long-back h long-some in omega (arith, g .is)
-
-    pub most : n ≤ 514
-    most = let g = long-back h long-some in omega (arith, g .is, g .few)
+    pub count-is : n ≡ entries h
+    count-is = is ∙ counted-back h counted-some .is

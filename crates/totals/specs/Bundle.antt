@@ -52,9 +52,9 @@ jobs b = jobs-from b 0 (entries b)
 
 -- ---- the contents alone
 
--- how long they are by their first two bytes, or 0 where there are fewer, or they count no entry or too many
-abbrev pub contents-long : List ℕ → ℕ
-contents-long h = cond (ltb (length h) 2) 0 (cond (ltb (entries h) 1) 0 (cond (ltb 64 (entries h)) 0 (contents-size (entries h))))
+-- how many entries the first two bytes count, or 0 where there are fewer bytes or too many entries
+abbrev pub entries-counted : List ℕ → ℕ
+entries-counted h = cond (ltb (length h) 2) 0 (cond (ltb 64 (entries h)) 0 (entries h))
 
 -- each entry begins where it is due
 abbrev pub in-order : List ℕ → Bool
@@ -62,4 +62,4 @@ in-order h = every-below (entries h) (λ i. eqb (offset h i) (due h i))
 
 -- these bytes, the whole of them, are the contents of 1 to 64 entries without gaps
 abbrev pub contents-fit : List ℕ → Bool
-contents-fit h = not (eqb (contents-long h) 0) && (eqb (length h) (contents-long h) && in-order h)
+contents-fit h = not (eqb (entries-counted h) 0) && (eqb (length h) (contents-size (entries-counted h)) && in-order h)

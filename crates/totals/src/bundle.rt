@@ -5,7 +5,7 @@ ghost use Prim.Native.Nat.{_+_, _*_, _≤_, _<_};
 ghost use lib.Dec.{eqb};
 ghost use lib.ListN.{length, getD};
 ghost use Rattle.rules.specs.Form.{word};
-ghost use Rattle.totals.specs.Bundle.{double, entries, offset, size, due, contents-size, contents-long, in-order, contents-fit};
+ghost use Rattle.totals.specs.Bundle.{double, entries, offset, size, due, contents-size, entries-counted, in-order, contents-fit};
 
 // The most entries that a bundle has, and the longest contents.
 pub const MOST: usize = 64;
@@ -75,33 +75,31 @@ fn follow_one_another(contents: &[u8], n: usize) -> bool
     true
 }
 
-// How long the contents are by their first two bytes, or 0 where there are fewer, or they count no entry or too many.
-pub fn contents_long(first: &[u8]) -> usize
-    ensures { λ r. ⌜ r ≡ contents-long (now (first .entry)) ⌝ }
+// How many entries the first two bytes count, or 0 where there are fewer bytes or too many entries.
+pub fn entries_counted(first: &[u8]) -> usize
+    ensures { λ r. ⌜ r ≡ entries-counted (now (first .entry)) ⌝ }
+    ensures { λ r. ⌜ r ≤ 64 ⌝ }
 {
     if first.len() < 2 {
         return 0;
     }
     let n = word_at(first, 0) as usize;
-    if n < 1 {
-        return 0;
-    }
     if MOST < n {
         return 0;
     }
-    2 + 8 * n
+    n
 }
 
 // Whether these bytes, the whole of them, are the contents of a good bundle.
 pub fn contents_fit(contents: &[u8]) -> bool
     ensures { λ r. ⌜ r ≡ contents-fit (now (contents .entry)) ⌝ }
 {
-    let long = contents_long(contents);
-    if long == 0 {
+    let n = entries_counted(contents);
+    if n == 0 {
         return false;
     }
-    if contents.len() != long {
+    if contents.len() != 2 + 8 * n {
         return false;
     }
-    follow_one_another(contents, (long - 2) / 8)
+    follow_one_another(contents, n)
 }

@@ -5,8 +5,8 @@ use borrow.Author.Needs.{needs}
 use Rattle.game.specs.Below.{upto, each}
 use Rattle.text.specs.PutText.{PutText}
 use Rattle.text.proofs.Putting.{put-none, put-length}
+use Rattle.text.proofs.Repeating.{put-next, put-upto}
 use Rattle.listing.specs.Told.{advised-line}
-use Rattle.listing.proofs.Telling.{put-next, put-upto}
 use Rattle.listing.proofs.list_state.Statement.{statement}
 use Rattle.listing.proofs.list_state.Tie as tie
 

@@ -5,9 +5,9 @@ use borrow.Author.Needs.{needs}
 use Rattle.game.specs.Below.{upto, each}
 use Rattle.text.specs.PutText.{PutText}
 use Rattle.text.proofs.Putting.{put-none, put-length}
+use Rattle.text.proofs.Repeating.{put-next, put-upto}
 use Rattle.listing.specs.Listing.{lines}
 use Rattle.listing.specs.Told.{advised-line}
-use Rattle.listing.proofs.Telling.{put-next, put-upto}
 use Rattle.listing.proofs.list_states.Statement.{statement}
 use Rattle.listing.proofs.list_states.Tie as tie
 

@@ -1,0 +1,3 @@
+-- What the report prints, and what its functions promise one another.
+pub mod Report
+pub mod Read
