@@ -3,6 +3,7 @@
 PREFIX ?= /usr/local
 JOB ?= examples/plate.job
 SLIPS ?=
+BUNDLE ?= examples/month.bundle
 N ?= 2000000
 CC ?= cc
 CFLAGS ?= -O2
@@ -16,7 +17,7 @@ MACHINE := $(shell uname -m)
 C_WORDS = -std=c11 $(WARNINGS) $(CFLAGS) -Iinclude
 ifeq ($(MACHINE),x86_64)
 RUN =
-install_listing = cp target/bin/listing $(DESTDIR)$(PREFIX)/bin/cabinet-list
+install_program = cp target/bin/$(1) $(DESTDIR)$(PREFIX)/bin/$(2)
 ARM_NOTE =
 c_program = $(CC) $(C_WORDS) $(1) build/libcabinet.a -o $(2)
 else
@@ -27,8 +28,8 @@ HEADERS = $(shell $(CC) -print-file-name=include) /usr/include/$(shell $(CC) -pr
 c_object = $(TOOLS)/bin/clang --target=x86_64-linux-gnu -nostdinc $(addprefix -isystem ,$(HEADERS)) $(C_WORDS) -c
 c_link = $(KIT)/bin/rattle-link --target x86_64-unknown-linux-gnu --toolchain $(TOOLS)
 c_program = $(c_object) $(1) -o $(2).o && { $(c_link) -o $(2) $(2).o build/libcabinet.a 2>build/link.log || { cat build/link.log; exit 1; }; }
-install_listing = $(call install_script,listing,cabinet-list,install/run.in)
-ARM_NOTE = The archive is for x86-64, and so are the programs: cabinet-list, cabinet-check and cabinet-judge run them under the toolchain's emulator.
+install_program = $(call install_script,$(1),$(2),install/run.in)
+ARM_NOTE = The archive is for x86-64, and so are the programs: cabinet-list, cabinet-report, cabinet-check and cabinet-judge run them under the toolchain's emulator.
 endif
 
 # $(call install_script,PROGRAM,NAME,SCRIPT): the program goes to libexec, and a script that runs it to bin.
@@ -36,13 +37,13 @@ script_for = sed 's|@PROGRAM@|$(strip $(RUN) $(1))|' $(2) >$(3) && chmod 755 $(3
 install_script = mkdir -p $(DESTDIR)$(PREFIX)/libexec && cp target/bin/$(1) $(DESTDIR)$(PREFIX)/libexec/$(2) && \
   $(call script_for,$(PREFIX)/libexec/$(2),$(3),$(DESTDIR)$(PREFIX)/bin/$(2))
 
-.PHONY: test plan lib examples install bench soak tests try-examples try-listing try-inputs try-slips try-checks try-trembling try-judge need-rt need-cc need-cargo need-x86
+.PHONY: test plan report lib examples install bench soak tests try-examples try-listing try-inputs try-slips try-checks try-trembling try-judge try-report need-rt need-cc need-cargo need-x86
 
-# Everything, from nothing: the layout of the files, the calls from C, the listing, many inputs, and last the toolchain's gate.
+# Everything, from nothing: the layout of the files, the calls from C, the programs, many inputs, and last the toolchain's gate.
 test: need-rt need-cc need-cargo
 	@rt fmt --check
 	@rm -f build/libcabinet.a
-	@$(MAKE) --no-print-directory try-examples try-inputs try-slips try-checks try-trembling try-judge try-listing
+	@$(MAKE) --no-print-directory try-examples try-inputs try-slips try-checks try-trembling try-judge try-listing try-report
 	@rt ci
 
 # Proves what has changed, builds, and lists a job; with SLIPS=K, 0 to 3, its plans for up to K slips of the arm.
@@ -56,6 +57,12 @@ plan: lib need-cc
 	@$(call c_program,examples/layers.c,build/layers)
 	@$(RUN) build/layers $(SLIPS) <$(JOB)
 endif
+
+# Proves what has changed, builds, and reports on a bundle.
+report: need-rt
+	@mkdir -p build
+	@rt check report >build/report.log 2>&1 || { cat build/report.log; exit 1; }
+	@$(RUN) target/bin/report <$(BUNDLE)
 
 # The archive for C. It is proved and made again when a file or folder of crates/ is newer, or the toolchain.
 lib: build/libcabinet.a
@@ -119,27 +126,34 @@ try-listing: tests
 	@sh tests/listing/run $(CURDIR)/build/cargo/release/cabinet-tests $(RUN) $(CURDIR)/target/bin/listing
 	@$(TESTS) listings $(RUN) target/bin/listing
 
+try-report: tests
+	@rt check report >build/report.log 2>&1 || { cat build/report.log; exit 1; }
+	@sh tests/report/run $(CURDIR)/build/cargo/release/cabinet-tests $(RUN) $(CURDIR)/target/bin/report
+	@$(TESTS) reports $(RUN) target/bin/report
+
 # More inputs: make soak N=10000000
 soak: tests
 	@$(TESTS) soak $(N)
 
 # Times beside the same rounds in plain Rust and the independent planner, also into docs/BENCH.md.
 bench: need-x86 tests
-	@$(TESTS) bench "$$(date +%Y-%m-%d)" >build/bench.md
+	@rt check listing report >build/report.log 2>&1 || { cat build/report.log; exit 1; }
+	@$(TESTS) bench "$$(date +%Y-%m-%d)" target/bin/report target/bin/listing >build/bench.md
 	@cat build/bench.md
 	@{ echo '# Speed'; echo; cat build/bench.md; } >docs/BENCH.md
 
 install: lib
-	@rt check listing compare judge >build/plan.log 2>&1 || { cat build/plan.log; exit 1; }
+	@rt check listing report compare judge >build/plan.log 2>&1 || { cat build/plan.log; exit 1; }
 	@mkdir -p $(DESTDIR)$(PREFIX)/lib/pkgconfig $(DESTDIR)$(PREFIX)/include $(DESTDIR)$(PREFIX)/bin
 	@cp build/libcabinet.a $(DESTDIR)$(PREFIX)/lib/
 	@cp include/cabinet.h $(DESTDIR)$(PREFIX)/include/
 	@sed 's|@PREFIX@|$(PREFIX)|' cabinet.pc.in >$(DESTDIR)$(PREFIX)/lib/pkgconfig/cabinet.pc
-	@$(install_listing)
+	@$(call install_program,listing,cabinet-list)
+	@$(call install_program,report,cabinet-report)
 	@$(call install_script,compare,cabinet-check,install/check.in)
 	@$(call install_script,judge,cabinet-judge,install/judge.in)
 	@[ -z "$(ARM_NOTE)" ] || echo "$(ARM_NOTE)"
-	@echo "installed the archive, the header, cabinet.pc, cabinet-list, cabinet-check and cabinet-judge under $(DESTDIR)$(PREFIX)"
+	@echo "installed the archive, the header, cabinet.pc, cabinet-list, cabinet-report, cabinet-check and cabinet-judge under $(DESTDIR)$(PREFIX)"
 
 need-rt:
 	@command -v rt >/dev/null 2>&1 || { echo "Missing: the Rattle toolchain, that is the command rt on the PATH." >&2; exit 1; }

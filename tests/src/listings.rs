@@ -69,10 +69,10 @@ impl Seen {
 }
 
 /// What the program prints for these bytes, with a pause before each of the places where they are cut.
-fn printed(words: &[String], job: &[u8], cuts: &[usize], pause: Duration) -> Output {
+pub fn printed(words: &[String], job: &[u8], cuts: &[usize], pause: Duration) -> Output {
     let mut command = Command::new(&words[0]);
     command.args(&words[1..]).stdin(Stdio::piped()).stdout(Stdio::piped());
-    let mut process = command.spawn().expect("the listing program can be started");
+    let mut process = command.spawn().expect("the program can be started");
     let mut to = process.stdin.take().expect("a pipe");
     let mut at = 0;
     for &cut in cuts {
@@ -83,11 +83,11 @@ fn printed(words: &[String], job: &[u8], cuts: &[usize], pause: Duration) -> Out
     }
     let _ = to.write_all(&job[at..]);
     drop(to);
-    process.wait_with_output().expect("the listing program ends")
+    process.wait_with_output().expect("the program ends")
 }
 
 /// Longer than the program needs to start, so that the pieces before and after it are read by themselves.
-fn pause(words: &[String]) -> Duration {
+pub fn pause(words: &[String]) -> Duration {
     let start = Instant::now();
     printed(words, &[], &[], Duration::ZERO);
     4 * start.elapsed() + Duration::from_millis(2)

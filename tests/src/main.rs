@@ -8,6 +8,7 @@ mod checks;
 mod judging;
 mod listings;
 mod make;
+mod months;
 mod oracle;
 mod random;
 mod report;
@@ -28,7 +29,8 @@ const USE: &str = "\
 cabinet-tests run [SEED]           the ordinary run
 cabinet-tests soak N [SEED]        N inputs, the fixed ones first
 cabinet-tests again SEED NUMBER    one input of a run once more
-cabinet-tests bench [DATE]         times beside other planners (or the date in BENCH_DATE)
+cabinet-tests bench [DATE [REPORT LISTING]]
+                                   times beside other planners (or the date in BENCH_DATE), and of these two programs
 cabinet-tests list                 the oracle's listing of the job on standard input
 cabinet-tests slips [SEED]         goals from slips, every body byte by byte and by what it means
 cabinet-tests check JOB PLAN       the line that the oracle prints of these files
@@ -36,7 +38,9 @@ cabinet-tests checks [SEED]        plans from elsewhere, every tie and many chan
 cabinet-tests trembling [SEED]     slips of the arm: every larger place, every count of slips, short and long buffers
 cabinet-tests judges [SEED]        recorded runs, all short ones and many more, beside an evaluator over trees
 cabinet-tests judge                the line that the oracle prints of the two lines on standard input
-cabinet-tests listings WORDS       the listing program, started by these words, beside the oracle's listing";
+cabinet-tests listings WORDS       the listing program, started by these words, beside the oracle's listing
+cabinet-tests report               the oracle's report of the bundle on standard input
+cabinet-tests reports WORDS        the report program, started by these words, beside the oracle's report";
 
 /// Tries the inputs with these numbers, prints the counts and says whether everything has come up.
 fn tried(inputs: &Inputs, seed: u64, numbers: std::ops::Range<u64>) -> bool {
@@ -63,10 +67,11 @@ fn tried(inputs: &Inputs, seed: u64, numbers: std::ops::Range<u64>) -> bool {
     desk.tally.covered()
 }
 
-fn list() {
+/// What is printed of standard input.
+fn told(text: fn(&[u8]) -> String) {
     let mut input = Vec::new();
     std::io::stdin().read_to_end(&mut input).expect("standard input can be read");
-    print!("{}", oracle::listing(&input));
+    print!("{}", text(&input));
 }
 
 fn command(words: &[String]) -> Option<()> {
@@ -91,7 +96,7 @@ fn command(words: &[String]) -> Option<()> {
         }
         "bench" => {
             let given = words.get(1).cloned().or_else(|| std::env::var("BENCH_DATE").ok());
-            bench::bench(&given.unwrap_or_else(|| "not given".to_string()));
+            bench::bench(&given.unwrap_or_else(|| "not given".to_string()), words.get(2..).unwrap_or_default());
         }
         "slips" => {
             if !slips::agree(seed_at(1)?) {
@@ -118,7 +123,8 @@ fn command(words: &[String]) -> Option<()> {
             }
         }
         "judge" => println!("{}", judging::told()),
-        "list" => list(),
+        "list" => told(oracle::listing),
+        "report" => told(oracle::report),
         "check" => {
             let file = |index: usize| Some(std::fs::read(words.get(index)?).expect("the file can be read"));
             print!("{}", oracle::checked(&file(1)?, &file(2)?));
@@ -126,6 +132,12 @@ fn command(words: &[String]) -> Option<()> {
         "listings" if words.len() > 1 => {
             if !listings::agree(&words[1..], SEED) {
                 println!("but not everything that a listing can say has come up");
+                std::process::exit(1);
+            }
+        }
+        "reports" if words.len() > 1 => {
+            if !months::agree(&words[1..], SEED) {
+                println!("but not everything that a report can say has come up");
                 std::process::exit(1);
             }
         }

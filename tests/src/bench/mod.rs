@@ -2,6 +2,7 @@
 
 mod checks;
 mod judges;
+mod months;
 mod plain;
 mod slips;
 mod table;
@@ -120,7 +121,8 @@ fn measure(cases: &mut Cases, name: &'static str, job: &[u8], repeats: usize) ->
     Line { name, bytes: job.len(), places, moves, largest, times: times.map(median) }
 }
 
-pub fn bench(date: &str) {
+/// The programs are those of the report and of the listing, where they are given.
+pub fn bench(date: &str, programs: &[String]) {
     let cases = &mut Cases::new();
     let jobs = [
         ("One plate", known::one_plate(), REPEATS),
@@ -147,6 +149,10 @@ pub fn bench(date: &str) {
     println!();
     judges::print(cases);
     println!();
+    if let [report, listing] = programs {
+        months::print(report, listing);
+        println!();
+    }
     println!(
         "The longest Goal body from slips, three clauses over six propositions, is written in {}.",
         table::unit(longest_goal(cases))

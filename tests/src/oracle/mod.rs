@@ -4,6 +4,7 @@ mod calls;
 mod checking;
 mod index;
 mod listing;
+mod month;
 mod plan;
 mod read;
 mod refusal;
@@ -11,6 +12,7 @@ mod waves;
 
 pub use calls::Answer;
 pub use listing::{checked, listing, TAKEN};
+pub use month::report;
 pub use plan::{entries, Entry, LOSING, PENDING, WINNING};
 pub use read::{read, Job};
 pub use refusal::*;
