@@ -12,7 +12,7 @@ use std::os::unix::net::UnixDatagram;
 use std::process::{Command, Output, Stdio};
 use std::time::Duration;
 
-/// How many seeded bundles there are; one in so many has 64 jobs, is handed over in single bytes, or in pieces.
+/// How many seeded bundles there are; one in so many has 64 jobs, is handed over in single bytes unless it is large, or in pieces.
 const BUNDLES: u64 = 120;
 const FULL: u64 = 20;
 const IN_BYTES: u64 = 6;
@@ -223,67 +223,79 @@ fn shuffled(random: &mut Random, jobs: &[Vec<u8>]) -> Vec<Vec<u8>> {
     jobs
 }
 
-fn note(seen: &mut Seen, jobs: &[Vec<u8>], due: &str) {
-    let long = |job: &Vec<u8>| job.len() > TAKEN;
-    let (last, others) = jobs.split_last().expect("a job");
-    let words = [
-        ("64 jobs", jobs.len() == 64),
-        ("long at the end", long(last)),
-        ("long in the middle", others.iter().any(long) && !long(last)),
-        ("empty", jobs.iter().any(Vec::is_empty)),
-    ];
-    seen.words.extend(words.into_iter().filter(|(_, so)| *so).map(|(word, _)| word));
-    let back: Vec<Vec<u8>> = jobs.iter().rev().cloned().collect();
-    let back = oracle::report(&bundle(&back));
-    let job = |text: &str| text.lines().last().and_then(|line| line.split_once(' ')?.1.parse::<usize>().ok());
-    if let (Some(first), Some(last)) = (job(due), job(&back)) {
-        if first != jobs.len() - 1 - last {
-            seen.words.insert("tie");
+/// What is known of a run so far.
+struct Run<'a> {
+    words: &'a [String],
+    pause: Duration,
+    seen: Seen,
+    damage: BTreeSet<&'static str>,
+    count: usize,
+}
+
+impl Run<'_> {
+    /// Notes what comes up in these jobs and their report.
+    fn note(&mut self, jobs: &[Vec<u8>], due: &str) {
+        let long = |job: &Vec<u8>| job.len() > TAKEN;
+        let (last, others) = jobs.split_last().expect("a job");
+        let words = [
+            ("64 jobs", jobs.len() == 64),
+            ("long at the end", long(last)),
+            ("long in the middle", others.iter().any(long) && !long(last)),
+            ("empty", jobs.iter().any(Vec::is_empty)),
+        ];
+        self.seen.words.extend(words.into_iter().filter(|(_, so)| *so).map(|(word, _)| word));
+        let back: Vec<Vec<u8>> = jobs.iter().rev().cloned().collect();
+        let back = oracle::report(&bundle(&back));
+        let job = |text: &str| text.lines().last().and_then(|line| line.split_once(' ')?.1.parse::<usize>().ok());
+        if let (Some(first), Some(last)) = (job(due), job(&back)) {
+            if first != jobs.len() - 1 - last {
+                self.seen.words.insert("tie");
+            }
+        }
+        self.seen.text(due);
+    }
+
+    /// The program on these bytes, whole or cut; and byte by byte where they are few.
+    fn hold(&mut self, input: &Input, cuts: &[usize], few: usize) -> String {
+        let due = oracle::report(&input.job);
+        held(input, &printed(self.words, &input.job, cuts, self.pause), &due, "whole or in pieces");
+        self.count += 1;
+        if input.job.len() < few {
+            held(input, &byte_by_byte(self.words, &input.job), &due, "byte by byte");
+            self.count += 1;
+        }
+        due
+    }
+
+    /// A bundle, the same with its jobs shuffled, and one damaged in some way.
+    fn bundle(&mut self, seed: u64, number: u64, inputs: &Inputs) {
+        let random = &mut Random::new(seed ^ 13, number);
+        let jobs = if number % FULL == 0 { 64 } else { random.between(1, 6) };
+        let jobs: Vec<Vec<u8>> = (0..jobs).map(|_| entry(random, inputs)).collect();
+        let whole = Input { seed, number, kind: "bundle", job: bundle(&jobs) };
+        let mut cuts: Vec<usize> = (0..4).map(|_| random.below(whole.job.len() + 1)).collect();
+        cuts.sort_unstable();
+        let cuts = if number % IN_PIECES == 1 { &cuts[..] } else { &[] };
+        let due = self.hold(&whole, cuts, if number % IN_BYTES == 0 { 20_000 } else { 400 });
+        self.note(&jobs, &due);
+        let other = Input { kind: "shuffled bundle", job: bundle(&shuffled(random, &jobs)), ..whole.clone() };
+        let other = self.hold(&other, &[], 0);
+        assert_eq!(without_job(&due), without_job(&other), "the oracle's report depends on the order");
+        let (kind, job) = spoilt(random, &jobs, number as usize % KINDS);
+        let due = self.hold(&Input { kind, job, ..whole }, &[], 2_000);
+        if due == "refused 23\n" {
+            self.damage.insert(kind);
         }
     }
-    seen.text(due);
 }
 
 /// Ends the run at the first report that differs; otherwise says whether everything has come up.
 pub fn agree(words: &[String], seed: u64) -> bool {
     let inputs = Inputs::new(seed);
-    let (mut seen, mut damage, mut count, pause) = (Seen::default(), BTreeSet::new(), 0, pause(words));
-    for number in 0..BUNDLES {
-        let random = &mut Random::new(seed ^ 13, number);
-        let jobs = if number % FULL == 0 { 64 } else { random.between(1, 6) };
-        let jobs: Vec<Vec<u8>> = (0..jobs).map(|_| entry(random, &inputs)).collect();
-        let input = Input { seed, number, kind: "bundle", job: bundle(&jobs) };
-        let due = oracle::report(&input.job);
-        note(&mut seen, &jobs, &due);
-        let mut cuts: Vec<usize> = (0..4).map(|_| random.below(input.job.len() + 1)).collect();
-        cuts.sort_unstable();
-        let cuts = if number % IN_PIECES == 1 { &cuts[..] } else { &[] };
-        held(&input, &printed(words, &input.job, cuts, pause), &due, "whole or in pieces");
-        if number % IN_BYTES == 0 || input.job.len() < 400 {
-            let few = if input.job.len() < 20_000 { input.job.clone() } else { bundle(&[known::one_plate(), vec![]]) };
-            let input = Input { job: few, ..input.clone() };
-            held(&input, &byte_by_byte(words, &input.job), &oracle::report(&input.job), "byte by byte");
-            count += 1;
-        }
-        let input = Input { kind: "shuffled bundle", job: bundle(&shuffled(random, &jobs)), ..input };
-        let other = oracle::report(&input.job);
-        assert_eq!(without_job(&due), without_job(&other), "the oracle's report depends on the order");
-        held(&input, &printed(words, &input.job, &[], Duration::ZERO), &other, "shuffled");
-        let (name, job) = spoilt(random, &jobs, number as usize % KINDS);
-        let input = Input { kind: name, job, ..input };
-        let due = oracle::report(&input.job);
-        if due == "refused 23\n" {
-            damage.insert(name);
-        }
-        held(&input, &printed(words, &input.job, &[], Duration::ZERO), &due, name);
-        if input.job.len() < 2_000 {
-            held(&input, &byte_by_byte(words, &input.job), &due, name);
-            count += 1;
-        }
-        count += 3;
-    }
-    let input = Input { seed, number: 0, kind: "a far longer entry", job: vec![] };
-    held(&input, &with_far_entry(words), "0\n2\n0\n0\n1\n0\n0\n0\n0\n0\n0\n0\n4\n-\n", "far");
-    println!("report: {} bundles agree", count + 1);
-    seen.covered(&damage)
+    let mut run = Run { words, pause: pause(words), seen: Seen::default(), damage: BTreeSet::new(), count: 1 };
+    (0..BUNDLES).for_each(|number| run.bundle(seed, number, &inputs));
+    let far = Input { seed, number: 0, kind: "a far longer entry", job: vec![] };
+    held(&far, &with_far_entry(words), "0\n2\n0\n0\n1\n0\n0\n0\n0\n0\n0\n0\n4\n-\n", "far");
+    println!("report: {} bundles agree", run.count);
+    run.seen.covered(&run.damage)
 }

@@ -1,19 +1,19 @@
 -- No text that is to be printed is longer than 393,237 bytes: the first line has at most 21, each of 16,384 others at most 24.
-use Prim.Native.Nat.{ℕ, zero, suc, _+_, _*_, _≤_, _<_}
-use mathlib.Core.Bool.{Bool, true, false, cond}
-use mathlib.Core.List.{List, [], _∷_, _++_, map}
-use mathlib.Core.Logic.{_↔_, inl, inr, ⊎-elim}
-use mathlib.Core.Path.{_≡_, refl, sym, ap, subst⁻¹, _∙_}
-use native.Mathlib.Nat.{mul-le-mul, suc-mul, le-refl, le-trans}
+use Prim.Native.Nat.{ℕ, _*_, _≤_, _<_}
+use mathlib.Core.Bool.{true}
+use mathlib.Core.List.{List}
+use mathlib.Core.Logic.{_↔_, ⊎-elim}
+use mathlib.Core.Path.{_≡_, refl, subst⁻¹}
+use native.Mathlib.Nat.{mul-le-mul, le-refl, le-trans}
 use native.Mathlib.Omega.{arith}
 use borrow.Author.Tests.{ne-eqb}
-use lib.ListN.{length, take, drop, length-append}
+use lib.ListN.{length, take, length-append}
 use Rattle.io.specs.Counts.{Counts}
 use Rattle.game.specs.Game.{Inside}
 use Rattle.game.specs.Below.{upto, each}
 use Rattle.rules.specs.Job.{place, places, start, arena}
 use Rattle.rules.specs.Fault.{Fault, only}
-use Rattle.rules.specs.Bytes.{fault, refusal, said}
+use Rattle.rules.specs.Bytes.{said}
 use Rattle.rules.specs.Plan.{blank, due, shaped, planned-entry}
 use Rattle.rules.specs.Calls.{Planning, refused, no-room, planned}
 use Rattle.game.specs.declared.entry.Entry.{Entry}
@@ -21,12 +21,12 @@ use Rattle.rules.specs.declared.place.Place.{Place}
 use Rattle.game.proofs.Tests.{and-iff, or-iff, ltb-iff, leb-iff, eqb-iff}
 use Rattle.sets.specs.Sets.{set-room}
 use Rattle.rules.proofs.Kept.{states-few, places-few}
-use Rattle.rules.proofs.Numbers.{named-few, Among, told}
+use Rattle.rules.proofs.Numbers.{told}
 use Rattle.rules.proofs.Arenas.{inside-iff, start-inside}
 use Rattle.rules.proofs.Planned.{planned-right}
 use Rattle.cabinet.proofs.Advising.{allowed-shaped}
 use Rattle.game.proofs.Following.{right-allowed}
-use Rattle.text.specs.Lines.{decimal, bytes, value-word, action-word, line-of, entry-line, start-line, names-record, refusal-line}
+use Rattle.text.specs.Lines.{decimal, action-word, entry-line, start-line}
 use Rattle.text.proofs.Digits.{decimal-length}
 use Rattle.text.proofs.Repeating.{short-each}
 use Rattle.text.proofs.Lengths.{short-value, short-refusal, fault-few, put-front}

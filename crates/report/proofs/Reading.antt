@@ -1,5 +1,5 @@
 -- What was read makes a bundle: the contents, and then the entries, one after another.
-use Prim.Native.Nat.{ℕ, zero, suc, _+_, _-_, _*_, _/_, _≤_, _<_, min}
+use Prim.Native.Nat.{ℕ, _+_, _-_, _*_, _/_, _≤_, _<_, min}
 use mathlib.Core.Bool.{true}
 use mathlib.Core.List.{List, [], _∷_, _++_, append-nil}
 use mathlib.Core.Logic.{_≢_, _⊎_, inl, inr}
@@ -16,7 +16,7 @@ use Rattle.totals.specs.declared.class.Class.{Class}
 use Rattle.totals.specs.declared.tally.Totals.{Totals}
 use Rattle.totals.proofs.Bundles.{contents-iff, together, bundle-made}
 use Rattle.totals.proofs.Reporting.{reported-none, reported-more}
-use Rattle.report.specs.Read.{Came-of, whole, cut, Entries, GoodContents}
+use Rattle.report.specs.Read.{Came-of, whole, Entries, GoodContents}
 use Rattle.report.specs.Report.{report, Tells, Told, reports}
 use Rattle.report.specs.declared.Came.{Came}
 
@@ -121,4 +121,5 @@ told-of {b} {n} {t} g d e same =
     let h = take (contents-size n) b in
     let c = contents-iff h .0 (g .good d) in
     let (made, all) = bundle-made h c (e .all) (e .count ∙ g .count d) (λ k l. e .sizes k (omega (arith, e .count))) in
-    (h ++ together (e .all), subst (Tells (h ++ together (e .all))) (sym same) (reports made (subst (λ (x : List (List ℕ)). Reported x t) (sym all) (e .reported))))
+    let right = subst (λ (x : List (List ℕ)). Reported x t) (sym all) (e .reported) in
+    (h ++ together (e .all), subst (Tells (h ++ together (e .all))) (sym same) (reports made right))

@@ -1,6 +1,6 @@
 -- What is printed of a bundle: it is one text, and it is short.
-use Prim.Native.Nat.{ℕ, zero, suc, _+_, _*_, _≤_, _<_}
-use mathlib.Core.List.{List, [], _∷_, _++_}
+use Prim.Native.Nat.{ℕ, _+_, _≤_}
+use mathlib.Core.List.{List, _++_}
 use mathlib.Core.Path.{_≡_, refl, sym, ap, subst}
 use native.Mathlib.Omega.{arith}
 use lib.ListN.{length, getD, take, length-append}
@@ -10,7 +10,6 @@ use Rattle.text.specs.Lines.{decimal}
 use Rattle.text.proofs.Digits.{decimal-length}
 use Rattle.text.proofs.Lengths.{put-front}
 use Rattle.text.proofs.Repeating.{short-each}
-use Rattle.totals.specs.Bundle.{Bundle, jobs}
 use Rattle.totals.specs.Reported.{LargestOf, nothing, number, Gathered}
 use Rattle.totals.specs.declared.tally.Largest.{Largest}
 use Rattle.totals.specs.declared.tally.Totals.{Totals}

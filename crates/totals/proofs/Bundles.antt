@@ -1,8 +1,8 @@
 -- The contents of a bundle: what each answer of judging them says, and that they are judged exactly.
 use Prim.Native.Nat.{ℕ, zero, suc, _+_, _*_, _≤_, _<_}
-use mathlib.Core.Bool.{Bool, true, false, cond, not}
+use mathlib.Core.Bool.{Bool, true, false, not}
 use mathlib.Core.List.{List, [], _∷_, _++_, append-assoc, append-nil}
-use mathlib.Core.Logic.{_↔_, _≢_, _⊎_, inl, inr}
+use mathlib.Core.Logic.{_↔_, _≢_}
 use mathlib.Core.Path.{_≡_, refl, sym, ap, subst, _∙_}
 use native.Mathlib.Omega.{arith}
 use native.Mathlib.Numerals.{add-one}
@@ -13,7 +13,8 @@ use lib.Seq.{take-at, drop-at, length-take-le}
 use Rattle.game.proofs.Tests.{and-iff, eqb-iff, every-iff, every-more, every-stops}
 use Rattle.game.specs.Below.{every-below}
 use Rattle.rules.specs.Form.{word}
-use Rattle.totals.specs.Bundle.{double, entries, offset, size, contents-size, due, Bundle, job, jobs-from, jobs, entries-counted, in-order, contents-fit}
+use Rattle.totals.specs.Bundle.{double, entries, offset, size, contents-size, due, Bundle}
+use Rattle.totals.specs.Bundle.{job, jobs-from, jobs, entries-counted, in-order, contents-fit}
 
 -- ---- the count of the first two bytes
 
@@ -69,7 +70,8 @@ contents-iff h = (there, back)
         ↔ ((entries-counted h ≢ 0) × ((length h ≡ contents-size (entries-counted h)) × ((i : ℕ) → i < entries h → offset h i ≡ due h i)))
     parts =
         and-iff (some-iff (entries-counted h))
-        (and-iff (eqb-iff (length h) (contents-size (entries-counted h))) (every-iff (begins-due h) (λ i. eqb-iff (offset h i) (due h i)) (entries h)))
+        (and-iff (eqb-iff (length h) (contents-size (entries-counted h)))
+        (every-iff (begins-due h) (λ i. eqb-iff (offset h i) (due h i)) (entries h)))
 
     there : contents-fit h ≡ true → Contents h
     there e =

@@ -1,15 +1,15 @@
 -- Each entry falls in one class and in no other, and what is planned of a job tells which.
-use Prim.Native.Nat.{ℕ, zero, suc, _+_, _≤_, _<_, min, zero-le}
+use Prim.Native.Nat.{ℕ, zero, suc, _+_, _≤_, _<_, zero-le}
 use mathlib.Core.Bool.{Bool, true, false, cond}
 use mathlib.Core.List.{List}
 use mathlib.Core.Logic.{_⊎_, inl, inr, _≢_}
 use mathlib.Core.Path.{_≡_, refl, sym, ap, subst, _∙_}
 use native.Mathlib.Omega.{arith}
-use borrow.Author.Tests.{eqb-true, eqb-false, leb-true}
+use borrow.Author.Tests.{leb-true}
 use lib.Dec.{eqb, leb}
 use lib.ListN.{length, take}
 use lib.Seq.{take-all}
-use Rattle.game.specs.Game.{Right, lost, met, wins, hopes, WinsIn, HopesIn}
+use Rattle.game.specs.Game.{Right, lost, met, wins, hopes}
 use Rattle.game.specs.declared.entry.Entry.{Entry}
 use Rattle.game.proofs.Search.{least-unique}
 use Rattle.game.proofs.Rounds.{win-accepted}
@@ -23,7 +23,8 @@ use Rattle.rules.proofs.Arenas.{arena-lawful, start-inside}
 use Rattle.rules.proofs.Kept.{kept, places-few}
 use Rattle.rules.proofs.Numbers.{Among, told}
 use Rattle.rules.proofs.Unique.{none-reaches}
-use Rattle.totals.specs.Classes.{entry-room, Taken, RefusedBy, longer, by-number, WinsBy, HopesBy, refused-at, In, Falls, winning, pending, losing, refused}
+use Rattle.totals.specs.Classes.{entry-room, Taken, RefusedBy, longer, by-number, WinsBy, HopesBy}
+use Rattle.totals.specs.Classes.{refused-at, In, Falls, winning, pending, losing, refused}
 use Rattle.totals.specs.Classes.{refused-line, line, started-class}
 use Rattle.totals.specs.declared.class.Class.{Class}
 

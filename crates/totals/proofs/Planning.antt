@@ -1,14 +1,13 @@
 -- The class of a job from what was read and planned of it.
-use Prim.Native.Nat.{ℕ, suc, _+_, _*_, _≤_, _<_}
+use Prim.Native.Nat.{ℕ, _+_, _*_, _≤_}
 use mathlib.Core.List.{List}
-use mathlib.Core.Logic.{_≢_}
 use mathlib.Core.Path.{_≡_, refl, sym, ap, subst, _∙_}
 use native.Mathlib.Omega.{arith}
 use lib.ListN.{length}
 use Rattle.game.specs.declared.entry.Entry.{Entry}
 use Rattle.rules.specs.Job.{entry-number, entered, start}
 use Rattle.rules.specs.Fault.{Fault, only}
-use Rattle.rules.specs.Bytes.{fault, refusal, said}
+use Rattle.rules.specs.Bytes.{refusal, said}
 use Rattle.rules.specs.Answers.{refusal-fault}
 use Rattle.rules.specs.Plan.{entry}
 use Rattle.rules.specs.Calls.{Planning}

@@ -1,5 +1,5 @@
 -- The totals as a record, and the step that adds the class of one job.
-use Prim.Native.Nat.{ℕ, suc, _+_}
+use Prim.Native.Nat.{ℕ, _+_}
 use mathlib.Core.Bool.{cond}
 use lib.Dec.{ltb}
 use lib.ListN.{getD, set, replicate}

@@ -5,7 +5,7 @@ ghost use Prim.Native.Nat.{_+_, _*_, _≤_, _<_};
 ghost use lib.Dec.{eqb};
 ghost use lib.ListN.{length, getD};
 ghost use Rattle.rules.specs.Form.{word};
-ghost use Rattle.totals.specs.Bundle.{double, entries, offset, size, due, contents-size, entries-counted, in-order, contents-fit};
+ghost use Rattle.totals.specs.Bundle.{double, entries, offset, size, contents-size, entries-counted, in-order, contents-fit};
 
 // The most entries that a bundle has, and the longest contents.
 pub const MOST: usize = 64;

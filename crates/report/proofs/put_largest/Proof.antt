@@ -43,7 +43,8 @@ returns-2 c =
     let f = c .before .before in
     let p = f .before .before .before .before in
     let n = p .before .before .before .before in
-    largest-put (n .before .before .before .largest .given .1) (put-then (n .put-number .ensures) (put-then (p .put .ensures) (f .put-figure .ensures)))
+    largest-put (n .before .before .before .largest .given .1)
+    (put-then (n .put-number .ensures) (put-then (p .put .ensures) (f .put-figure .ensures)))
 
 pub put-largest-spec : {M : Type 1} → statement M
 put-largest-spec =

@@ -1,7 +1,6 @@
 -- `read_contents` meets its contract: what is answered was judged.
 use mathlib.Core.Path.{_∙_}
 use mathlib.Core.Path.{sym}
-use native.Mathlib.Omega.{arith}
 use lib.Seq.{length-take-le}
 use Rattle.report.proofs.Reading.{no-contents, contents-read}
 use borrow.Author.Needs.{needs}
@@ -48,8 +47,8 @@ returns : tie.Need-returns
 returns c =
     let k = c .before in
     let r = k .before .before .before .before in
-    contents-read (r .read-between2 .last .0) (r .before .before .entries-counted .result) (r .read-between2 .result) (r .before .before .entries-counted .ensures .1)
-    (r .read-between2 .ensures) (sym (k .contents-fit .ensures) ∙ c .if1 .taken) (search needs)
+    contents-read (r .read-between2 .last .0) (r .before .before .entries-counted .result) (r .read-between2 .result)
+    (r .before .before .entries-counted .ensures .1) (r .read-between2 .ensures) (sym (k .contents-fit .ensures) ∙ c .if1 .taken) (search needs)
 
 same-length-2 : tie.Need-same-length-2
 same-length-2 c = search needs

@@ -1,7 +1,6 @@
 -- `read_past` meets its contract: what is left falls with each turn.
 use Prim.Native.Nat.{_≤_}
-use mathlib.Core.Path.{_≡_, refl}
-use native.Mathlib.Omega.{arith}
+use mathlib.Core.Path.{_≡_}
 use borrow.Author.Needs.{needs}
 use lib.ListN.{length}
 use Rattle.totals.specs.Classes.{entry-room}

@@ -2,8 +2,8 @@
 use Prim.Native.Nat.{ℕ}
 use mathlib.Core.Path.{subst}
 use mathlib.Core.Bool.{false≢true}
-use Prim.Native.Nat.{_+_, _-_, _≤_}
-use mathlib.Core.Path.{_≡_, refl, sym}
+use Prim.Native.Nat.{_-_, _≤_}
+use mathlib.Core.Path.{_≡_, refl}
 use native.Mathlib.Omega.{arith}
 use borrow.Author.Needs.{needs}
 use lib.ListN.{length}
@@ -70,7 +70,8 @@ loop-again c =
         search needs,
         (
           search needs,
-          entries-more (t .loop .inv .1 .1 .1) (q .take-entry .ensures) (c .before .before .class .given .1) (q .before .size-of .ensures .0) (c .add .ensures),
+          entries-more (t .loop .inv .1 .1 .1) (q .take-entry .ensures) (c .before .before .class .given .1)
+              (q .before .size-of .ensures .0) (c .add .ensures),
         ),
       ),
     )

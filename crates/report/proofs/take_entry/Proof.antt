@@ -1,6 +1,5 @@
 -- `take_entry` meets its contract: what came is the entry, as far as it is kept.
 use mathlib.Core.Path.{sym, _∙_}
-use native.Mathlib.Omega.{arith}
 use lib.Seq.{length-take-le}
 use Rattle.report.specs.Read.{cut}
 use Rattle.report.proofs.Reading.{came-whole}
@@ -39,7 +38,9 @@ same-length-2 : tie.Need-same-length-2
 same-length-2 c = search needs
 
 returns-2 : tie.Need-returns-2
-returns-2 c = let q = c .before .before .before .before .before in came-whole (class-of-requires (q .before) (q .class-of .lifetimes)) (q .class-of .ensures)
+returns-2 c =
+    let q = c .before .before .before .before .before in
+    came-whole (class-of-requires (q .before) (q .class-of .lifetimes)) (q .class-of .ensures)
 
 same-length-3 : tie.Need-same-length-3
 same-length-3 c = search needs

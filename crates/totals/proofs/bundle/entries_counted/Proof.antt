@@ -14,10 +14,14 @@ word-at-requires : tie.Need-word-at-requires
 word-at-requires c κs = search needs
 
 returns-2 : tie.Need-returns-2
-returns-2 c = let w = c .before in (counted-many (w .before .before .before .args .first .now) (w .before .if1 .left) (w .word-at .ensures .0) (c .if2 .taken), omega arith)
+returns-2 c =
+    let w = c .before in
+    (counted-many (w .before .before .before .args .first .now) (w .before .if1 .left) (w .word-at .ensures .0) (omega arith), omega arith)
 
 returns-3 : tie.Need-returns-3
-returns-3 c = let w = c .before in (counted-is (w .before .before .before .args .first .now) (w .before .if1 .left) (w .word-at .ensures .0) (c .if2 .left), c .if2 .left)
+returns-3 c =
+    let w = c .before in
+    (counted-is (w .before .before .before .args .first .now) (w .before .if1 .left) (w .word-at .ensures .0) (omega arith), omega arith)
 
 pub entries-counted-spec : {M : Type 1} → statement M
 entries-counted-spec = tie.close (tie.spec returns word-at-requires returns-2 returns-3)

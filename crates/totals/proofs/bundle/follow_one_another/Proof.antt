@@ -3,11 +3,10 @@ use Rattle.totals.proofs.Bundles.{order-stops, order-more, due-next}
 use Rattle.totals.specs.Bundle.{entries, contents-size}
 use Prim.Native.Nat.{_+_, _-_, _*_, _≤_}
 use mathlib.Core.Bool.{true}
-use mathlib.Core.Path.{_≡_, refl, sym, ap, _∙_}
+use mathlib.Core.Path.{_≡_, refl, sym, ap}
 use native.Mathlib.Omega.{arith}
 use borrow.Author.Tests.{not-true, not-false}
 use Rattle.game.specs.Below.{every-below}
-use Rattle.game.proofs.Tests.{every-more, every-stops}
 use Rattle.totals.specs.Bundle.{due}
 use Rattle.totals.proofs.Bundles.{begins-due}
 use Rattle.totals.proofs.bundle.follow_one_another.Statement.{statement}
@@ -35,7 +34,8 @@ returns : tie.Need-returns Inv-loop μ-loop
 returns c =
     let t = c .before .before .before in
     let s = t .before .before in
-    order-stops (s .args .contents .now) (t .loop .i) (t .loop .at) _ (t .loop .inv .1 .0) (c .before .begins .ensures) (omega (arith, s .pre .1 .0)) (not-true _ (c .if1 .taken))
+    order-stops (s .args .contents .now) (t .loop .i) (t .loop .at) _ (t .loop .inv .1 .0) (c .before .begins .ensures)
+    (omega (arith, s .pre .1 .0)) (not-true _ (c .if1 .taken))
 
 size-of-requires : tie.Need-size-of-requires Inv-loop μ-loop
 size-of-requires c κs = (omega arith, omega arith)

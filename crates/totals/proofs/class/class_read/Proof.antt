@@ -37,8 +37,8 @@ read-entry-requires : tie.Need-read-entry-requires
 read-entry-requires c κs =
     let e = c .before .before .before .before in
     let p = e .before .before .before in
-    entry-there (p .before .before .before .pre .0) (rw (e .enum-told .given .1) at (p .plan .ensures)) (c .before .before .before .place-entered .ensures)
-    (c .entry-number .ensures)
+    entry-there (p .before .before .before .pre .0) (rw (e .enum-told .given .1) at (p .plan .ensures))
+    (c .before .before .before .place-entered .ensures) (c .entry-number .ensures)
 
 class-started-requires : tie.Need-class-started-requires
 class-started-requires c κs = search needs

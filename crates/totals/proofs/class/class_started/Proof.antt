@@ -1,5 +1,5 @@
 -- `class::class_started` meets its contract: each value has its class.
-use borrow.Author.Tests.{eq-eqb, ne-eqb}
+use borrow.Author.Tests.{ne-eqb}
 use Rattle.totals.proofs.class.class_started.Statement.{statement}
 use Rattle.totals.proofs.class.class_started.Tie as tie
 

@@ -21,7 +21,9 @@ enum-told-3 : tie.Need-enum-told-3
 enum-told-3 c = search needs
 
 returns : tie.Need-returns
-returns c = c .larger-number .ensures ∙ ap (larger (c .before .before .before .before .args .so-far) (c .before .before .before .before .args .job)) (sym (c .before .before .c .given .1))
+returns c =
+    let a = c .before .before .before .before .args in
+    c .larger-number .ensures ∙ ap (larger (a .so-far) (a .job)) (sym (c .before .before .c .given .1))
 
 returns-2 : tie.Need-returns-2
 returns-2 c = search needs
