@@ -20,7 +20,7 @@ use Rattle.sets.proofs.Bits.{below-or, same-or}
 use Rattle.rules.specs.Job.{start, arena}
 use Rattle.rules.specs.Bytes.{refusal, said}
 use Rattle.rules.proofs.Arenas.{arena-lawful, start-inside}
-use Rattle.rules.proofs.Kept.{kept, places-few}
+use Rattle.rules.proofs.Kept.{kept, places-few, length-most}
 use Rattle.rules.proofs.Numbers.{Among, told}
 use Rattle.rules.proofs.Unique.{none-reaches}
 use Rattle.totals.specs.Classes.{entry-room, Taken, RefusedBy, longer, by-number, WinsBy, HopesBy}
@@ -189,6 +189,10 @@ module _ {b : List ℕ} where
   hopes-few n h =
       let k = kept b .0 (h .starts .taken .sound) in
       omega (arith, none-reaches k (start (said b)) (start-inside b k) n .1 (h .number), places-few k)
+
+-- A longer entry is refused in any case, since no job is so long: that it counts as 2 decides by which number.
+pub longer-refused : (b : List ℕ) → entry-room < length b → refusal b ≢ 0
+longer-refused b l z = omega (arith, length-most (kept b .0 z))
 
 -- Every entry falls in a class.
 pub falls-exists : (b : List ℕ) → (c : Class) × Falls b c

@@ -4,3 +4,4 @@ pub mod Falling
 pub mod Reporting
 pub mod Planning
 pub mod Bundles
+pub mod Examples
