@@ -9,6 +9,7 @@ pub mod Values
 pub mod Hopes
 pub mod Right
 pub mod Alike
+pub mod Grown
 pub mod Bounds
 pub mod Following
 pub mod Visiting

@@ -135,10 +135,10 @@ abbrev pub record-of : List ℕ → Layout → ℕ → Move
 record-of b l k = form-of (l .tall) .record-at b (l .«moves_at» + form-of (l .tall) .record-size * k)
 
 -- what is wrong with record k after the one before it, joined, is what is wrong with it among all records
-pub fault-is : (b : List ℕ) (l : Layout) → ((i : ℕ) → getD b i 0 < 256) → l ≡ layout b → (k : ℕ)
-    → fault-after l k (previous (said b .move) k) (record-of b l k) ≡ record-fault (said b) k
-fault-is b l h e zero = rw (e, lt-ltb 0 (joined (said b .move 0)) (omega arith))
-fault-is b l h e (suc k) =
+pub fault-is : (forgive : Bool) (b : List ℕ) (l : Layout) → ((i : ℕ) → getD b i 0 < 256) → l ≡ layout b → (k : ℕ)
+    → fault-after forgive l k (previous (said b .move) k) (record-of b l k) ≡ record-fault forgive (said b) k
+fault-is forgive b l h e zero = rw (e, lt-ltb 0 (joined (said b .move 0)) (omega arith))
+fault-is forgive b l h e (suc k) =
     let t = is-tall b in
     let at : ℕ → ℕ = λ i. offset b 2 + form-of t .record-size * i in
     rw (e, joined-before (said b .move k) (said b .move (suc k)) (typed b h t (at k)) (typed b h t (at (suc k))))

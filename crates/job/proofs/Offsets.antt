@@ -14,7 +14,7 @@ use Rattle.rules.specs.Form.{form-of}
 use Rattle.rules.specs.Bytes.{byte, said}
 use Rattle.rules.specs.declared.place.Move.{Move}
 use Rattle.rules.proofs.Kept as kept
-use Rattle.job.specs.Layout.{Fit}
+use Rattle.job.specs.Layout.{Fit, FitBut}
 use Rattle.job.specs.declared.layout.Layout.{Layout}
 use Rattle.job.proofs.Asking.{states-said, goals-said}
 use Rattle.job.proofs.Laying.{record-inside}
@@ -55,6 +55,9 @@ module _ {b : List ℕ} {l : Layout} (f : Fit b l) where
     pub mark-value : {r : ℕ} → r ≡ getD b (l .«goal_at» + (l .goals * w + q)) 0 → eqb r 1 ≡ said b .final q
     mark-value y = let z = rw (e, f .is-layout) at y in rw z
 
+-- ---- the records, whatever their outcomes
+
+module _ {forgive : Bool} {b : List ℕ} {l : Layout} (f : FitBut forgive b l) where
   pub move-inside : {k : ℕ} → k < l .records
       → l .«moves_at» + form-of (l .tall) .record-size * k + form-of (l .tall) .record-size ≤ length b
   move-inside h = record-inside (l .tall) (l .«moves_at») h (rw (f .is-layout) (kept.moves-end (f .keeps)))

@@ -1,10 +1,10 @@
 -- What judging and reading answer: the number for each case with its record, and the layout where it is 0.
 use Prim.Native.Nat.{ℕ}
-use mathlib.Core.Bool.{false, cond, not}
+use mathlib.Core.Bool.{Bool, false, cond, not}
 use mathlib.Core.List.{List}
 use lib.Dec.{eqb}
 use Rattle.rules.specs.Fault.{Fault, only}
-use Rattle.rules.specs.Bytes.{fault, refusal}
+use Rattle.rules.specs.Bytes.{fault-but, refusal-but}
 use Rattle.rules.specs.Answers.{refusal-fault}
 use Rattle.job.specs.Layout.{layout}
 use Rattle.job.specs.declared.layout.Layout.{Layout}
@@ -40,7 +40,11 @@ abbrev pub reading-figures : Reading → ReadingFigures
 reading-figures (Reading.Job l) = record { fault = only 0; layout = l }
 reading-figures (Reading.Refused r) = record { fault = refusal-fault r; layout = no-layout }
 
--- what reading answers of the bytes b
+-- what reading answers of the bytes b; a too large outcome may be forgiven
+abbrev pub reading-but : Bool → List ℕ → ReadingFigures
+reading-but forgive b =
+    cond (not (eqb (refusal-but forgive b) 0)) (record { fault = fault-but forgive b; layout = no-layout })
+    (record { fault = only 0; layout = layout b })
+
 abbrev pub reading : List ℕ → ReadingFigures
-reading b =
-    cond (not (eqb (refusal b) 0)) (record { fault = fault b; layout = no-layout }) (record { fault = only 0; layout = layout b })
+reading b = reading-but false b

@@ -3,9 +3,9 @@ ghost use mathlib.Core.Path.{_≡_};
 ghost use mathlib.Core.Bool.{true};
 ghost use Prim.Native.Nat.{_≤_};
 ghost use lib.ListN.{length};
-ghost use Rattle.rules.specs.Bytes.{said, contents, labels, within, whole, records-fault, goal};
+ghost use Rattle.rules.specs.Bytes.{said, contents, labels, within-but, whole, records-fault, goal};
 ghost use Rattle.job.specs.Layout.{layout, Laid, in-ranges, fault-after};
-ghost use Rattle.job.specs.Reading.{verdict-fault, reading, reading-figures};
+ghost use Rattle.job.specs.Reading.{verdict-fault, reading, reading-but, reading-figures};
 use crate::body::bytes_below;
 use crate::body::join;
 use crate::body::labels_below;
@@ -120,9 +120,9 @@ fn labels_fit(job: &[u8], l: Layout) -> bool
     labels_below(job, l.labels_at, l.states, l.propositions)
 }
 
-// Whether each field of a record is in its range.
-fn fields_fit(l: Layout, m: Move) -> bool
-    ensures { λ r. ⌜ r ≡ within (l .states) (l .actions) m ⌝ }
+// Whether each field of a record is in its range; a too large outcome may be forgiven.
+fn fields_fit(l: Layout, m: Move, forgive: bool) -> bool
+    ensures { λ r. ⌜ r ≡ within-but forgive (l .states) (l .actions) m ⌝ }
 {
     if l.states <= m.state as usize {
         return false;
@@ -130,15 +130,18 @@ fn fields_fit(l: Layout, m: Move) -> bool
     if l.actions <= m.action {
         return false;
     }
+    if forgive {
+        return true;
+    }
     (m.outcome as usize) < l.states
 }
 
 // What is wrong with record k, where last is the one before it, joined: its fields are judged, and then its order.
-fn judge_record(l: Layout, k: usize, last: u64, m: Move) -> Verdict
+fn judge_record(l: Layout, k: usize, last: u64, m: Move, forgive: bool) -> Verdict
     requires { ⌜ k ≤ 65535 ⌝ }
-    ensures { λ r. ⌜ verdict-fault r ≡ fault-after l k last m ⌝ }
+    ensures { λ r. ⌜ verdict-fault r ≡ fault-after forgive l k last m ⌝ }
 {
-    if !fields_fit(l, m) {
+    if !fields_fit(l, m, forgive) {
         return Verdict::Bad(Refusal::Field(k as u32));
     }
     if last < join(m) {
@@ -148,17 +151,17 @@ fn judge_record(l: Layout, k: usize, last: u64, m: Move) -> Verdict
 }
 
 // The records are judged from the front, up to the first bad one. Before record 0 stands 0, which lies below every record that is joined.
-fn judge_records(job: &[u8], l: Layout) -> Verdict
+fn judge_records(job: &[u8], l: Layout, forgive: bool) -> Verdict
     requires { ⌜ Laid (now job) l ⌝ }
     requires { ⌜ l .records ≤ 65535 ⌝ }
-    ensures { λ r. ⌜ verdict-fault r ≡ records-fault (said (now (job .entry))) (l .records) ⌝ }
+    ensures { λ r. ⌜ verdict-fault r ≡ records-fault forgive (said (now (job .entry))) (l .records) ⌝ }
 {
     let n = l.records;
     let mut last: u64 = 0;
     let mut k: usize = 0;
     while k < n {
         let m = nth_record(job, l.tall, l.moves_at, k);
-        match judge_record(l, k, last, m) {
+        match judge_record(l, k, last, m, forgive) {
             Verdict::Bad(why) => return Verdict::Bad(why),
             Verdict::Good => {
                 last = join(m);
@@ -197,9 +200,9 @@ fn goal_fits(job: &[u8], l: Layout) -> bool
     bytes_below(job, l.goal_at + rows, l.goals, 2)
 }
 
-// The job's layout and counts, or the first fault of its bytes.
-pub fn read(job: &[u8]) -> Reading
-    ensures { λ r. ⌜ reading-figures r ≡ reading (now (job .entry)) ⌝ }
+// The job's layout and counts, or the first fault of its bytes; a too large outcome may be forgiven.
+fn judge(job: &[u8], forgive: bool) -> Reading
+    ensures { λ r. ⌜ reading-figures r ≡ reading-but forgive (now (job .entry)) ⌝ }
 {
     if job.len() < 16 {
         return Reading::Refused(Refusal::Short);
@@ -217,7 +220,7 @@ pub fn read(job: &[u8]) -> Reading
     if !moves_whole(job, l) {
         return Reading::Refused(Refusal::Moves);
     }
-    match judge_records(job, l) {
+    match judge_records(job, l, forgive) {
         Verdict::Bad(why) => Reading::Refused(why),
         Verdict::Good => {
             if !goal_fits(job, l) {
@@ -226,4 +229,18 @@ pub fn read(job: &[u8]) -> Reading
             Reading::Job(l)
         }
     }
+}
+
+// The job's layout and counts, or the first fault of its bytes.
+pub fn read(job: &[u8]) -> Reading
+    ensures { λ r. ⌜ reading-figures r ≡ reading (now (job .entry)) ⌝ }
+{
+    judge(job, false)
+}
+
+// The job's layout and counts, or the first fault of its bytes other than a too large outcome.
+pub fn read_forgiving(job: &[u8]) -> Reading
+    ensures { λ r. ⌜ reading-figures r ≡ reading-but true (now (job .entry)) ⌝ }
+{
+    judge(job, true)
 }

@@ -1,9 +1,11 @@
-// What a job that was read says of a state, a goal state, a place or a record. No other crate reads a byte of a job at an offset.
+// What a job that was read says of a state, a goal state, a place or a record. No other crate reads a byte of a job at an offset, but
+// salvaging copies whole bodies and records.
 ghost use mathlib.Core.Path.{_≡_};
+ghost use mathlib.Core.Bool.{true};
 ghost use Prim.Native.Nat.{_<_};
 ghost use Rattle.rules.specs.Job.{place, entered, is-record, arena};
 ghost use Rattle.rules.specs.Bytes.{said, before};
-ghost use Rattle.job.specs.Layout.{Fit};
+ghost use Rattle.job.specs.Layout.{Fit, FitBut};
 ghost use Rattle.job.specs.Found.{FoundOf, triple, Parted};
 use crate::body::BUSY;
 use crate::body::byte_at;
@@ -83,6 +85,15 @@ pub fn is_accepted(job: &[u8], l: Layout, s: usize, q: usize) -> bool
 // Record k.
 pub fn move_at(job: &[u8], l: Layout, k: usize) -> Move
     requires { ⌜ Fit (now job) l ⌝ }
+    requires { ⌜ k < l .records ⌝ }
+    ensures { λ r. ⌜ r ≡ said (now (job .entry)) .move k ⌝ }
+{
+    nth_record(job, l.tall, l.moves_at, k)
+}
+
+// Record k of a job that was read with too large outcomes forgiven.
+pub fn forgiven_move_at(job: &[u8], l: Layout, k: usize) -> Move
+    requires { ⌜ FitBut true (now job) l ⌝ }
     requires { ⌜ k < l .records ⌝ }
     ensures { λ r. ⌜ r ≡ said (now (job .entry)) .move k ⌝ }
 {

@@ -2,5 +2,5 @@
 pub mod accept;
 pub mod ask;
 mod body;
-mod form;
+pub mod form;
 pub mod layout;

@@ -1,17 +1,17 @@
 -- What each test of a job's bytes says, where it passes, in pairs nested as the tests are.
 use Prim.Native.Nat.{ℕ, zero, suc, _+_, _*_, _%_, _≤_, _<_}
-use mathlib.Core.Bool.{true}
+use mathlib.Core.Bool.{Bool, true, false, _||_}
 use mathlib.Core.List.{List}
 use mathlib.Core.Logic.{_⊎_, ⊎-elim, _↔_, Iff·rfl, Iff·trans, Iff·and}
-use mathlib.Core.Path.{_≡_}
+use mathlib.Core.Path.{_≡_, refl}
 use native.Mathlib.Omega.{arith}
 use lib.Dec.{leb, ltb}
 use lib.ListN.{length}
 use lib.Pow.{pow-pos}
 use Rattle.rules.specs.Job.{Job}
 use Rattle.rules.specs.Bytes.{offset, size, end, byte, is-tall, form, width, rows, mark, said}
-use Rattle.rules.specs.Bytes.{contents, in-range, counts, labels, within, whole, goal}
-use Rattle.rules.specs.Keeps.{Before}
+use Rattle.rules.specs.Bytes.{contents, in-range, counts, labels, within-but, whole, goal}
+use Rattle.rules.specs.Keeps.{Before, OutcomeFits}
 use Rattle.rules.specs.BadRecord.{FieldsFit, OrderFits}
 use Rattle.rules.specs.declared.place.Move.{Move}
 use Rattle.rules.proofs.Rows.{rows-iff}
@@ -57,9 +57,13 @@ labels-iff b =
     and-iff (eqb-iff (size b 1) (said b .states))
     (every-iff (λ s. ltb (said b .label s) (width b)) (λ s. ltb-iff (said b .label s) (width b)) (said b .states))
 
-pub within-iff : (s a : ℕ) (m : Move) → (within s a m ≡ true)
-    ↔ ((m .state < s) × ((m .action < a) × (m .outcome < s)))
-within-iff s a m = and-iff (ltb-iff (m .state) s) (and-iff (ltb-iff (m .action) a) (ltb-iff (m .outcome) s))
+outcome-iff : (forgive : Bool) (t s : ℕ) → ((forgive || ltb t s) ≡ true) ↔ OutcomeFits forgive t s
+outcome-iff true t s = (λ e. tt, λ u. refl)
+outcome-iff false t s = ltb-iff t s
+
+pub within-iff : (forgive : Bool) (s a : ℕ) (m : Move) → (within-but forgive s a m ≡ true)
+    ↔ ((m .state < s) × ((m .action < a) × OutcomeFits forgive (m .outcome) s))
+within-iff forgive s a m = and-iff (ltb-iff (m .state) s) (and-iff (ltb-iff (m .action) a) (outcome-iff forgive (m .outcome) s))
 
 -- records that each come after the one before come after every earlier one
 pub ascending-iff : (j : Job)
@@ -76,9 +80,9 @@ ascending-iff j = (up, down)
     down t zero h = tt
     down t (suc k) h = t k (suc k) (omega arith) h
 
-pub records-iff : (j : Job) → ((k : ℕ) → k < j .records → FieldsFit j k × OrderFits j k)
-    ↔ (((k : ℕ) → k < j .records → FieldsFit j k) × ((k m : ℕ) → k < m → m < j .records → Before (j .move k) (j .move m)))
-records-iff j = Iff·trans (all-and (j .records)) (Iff·and Iff·rfl (ascending-iff j))
+pub records-iff : (forgive : Bool) (j : Job) → ((k : ℕ) → k < j .records → FieldsFit forgive j k × OrderFits j k)
+    ↔ (((k : ℕ) → k < j .records → FieldsFit forgive j k) × ((k m : ℕ) → k < m → m < j .records → Before (j .move k) (j .move m)))
+records-iff forgive j = Iff·trans (all-and (j .records)) (Iff·and Iff·rfl (ascending-iff j))
 
 pub whole-iff : (b : List ℕ) → (whole b ≡ true)
     ↔ ((size b 2 ≡ form b .record-size * said b .records) × (said b .records ≤ form b .most-records))

@@ -1,5 +1,6 @@
 -- The bytes that no number refuses are those that keep the rules; and the laws of such bytes, so that nothing after has to open them.
 use Prim.Native.Nat.{ℕ, _+_, _*_, _≤_, _<_}
+use mathlib.Core.Bool.{Bool, false}
 use mathlib.Core.List.{List}
 use mathlib.Core.Logic.{_⊎_, ⊎-elim, _↔_}
 use mathlib.Core.Path.{_≡_, sym}
@@ -9,25 +10,25 @@ use lib.ListN.{length}
 use lib.Arith.{digits-lt}
 use lib.Pow.{pow-mono}
 use Rattle.rules.specs.Job.{places}
-use Rattle.rules.specs.Bytes.{offset, size, is-tall, form, width, said, refusal}
-use Rattle.rules.specs.Keeps.{Keeps}
+use Rattle.rules.specs.Bytes.{offset, size, is-tall, form, width, said, refusal, refusal-but}
+use Rattle.rules.specs.Keeps.{KeepsBut, Keeps}
 use Rattle.rules.proofs.Order.{before-state, before-differ}
 use Rattle.rules.proofs.Forms.{states-most, records-most, counts-sized, longest, longest-most}
 use Rattle.rules.proofs.Judged.{contents-iff, counts-iff, labels-iff, whole-iff, records-iff, goal-iff}
 use Rattle.rules.proofs.Numbers.{refusal-0}
 use Rattle.sets.specs.Sets.{set-room}
 
-pub kept : (b : List ℕ) → (refusal b ≡ 0) ↔ Keeps b
-kept b = (into, back)
+pub kept-but : (forgive : Bool) (b : List ℕ) → (refusal-but forgive b ≡ 0) ↔ KeepsBut forgive b
+kept-but forgive b = (into, back)
   where
-    into : refusal b ≡ 0 → Keeps b
+    into : refusal-but forgive b ≡ 0 → KeepsBut forgive b
     into e =
-        let (a, (c, (n, (l, (w, (r, g)))))) = refusal-0 b .0 e in
+        let (a, (c, (n, (l, (w, (r, g)))))) = refusal-0 forgive b .0 e in
         let (c0, (c1, (c2, (c3, (c4, c5))))) = contents-iff b .0 c in
         let (n0, (n1, (n2, (n3, (n4, (n5, (n6, (n7, n8)))))))) = counts-iff b .0 n in
         let (l0, l1) = labels-iff b .0 l in
         let (m0, m1) = whole-iff b .0 w in
-        let (m2, m3) = records-iff (said b) .0 r in
+        let (m2, m3) = records-iff forgive (said b) .0 r in
         let (g0, (g1, g2)) = goal-iff b .0 g in
         record {
           contents-long = a;
@@ -59,19 +60,22 @@ kept b = (into, back)
           mark-range = g2;
         }
 
-    back : Keeps b → refusal b ≡ 0
+    back : KeepsBut forgive b → refusal-but forgive b ≡ 0
     back k =
         let c = contents-iff b .1 (k .counts-at, (k .labels-at, (k .moves-at, (k .goal-at, (k .ends, k .counts-long))))) in
         let n = counts-iff b .1 (omega arith) in
         let l = labels-iff b .1 (k .labels-long, k .label-below) in
         let w = whole-iff b .1 (k .moves-long, k .few-records) in
-        let r = records-iff (said b) .1 (λ i h. (k .state-below i h, (k .action-below i h, k .outcome-below i h)), k .ascending) in
+        let r = records-iff forgive (said b) .1 (λ i h. (k .state-below i h, (k .action-below i h, k .outcome-below i h)), k .ascending) in
         let g = goal-iff b .1 (k .goal-long, (k .next-below, k .mark-range)) in
-        refusal-0 b .1 (k .contents-long, (c, (n, (l, (w, (r, g))))))
+        refusal-0 forgive b .1 (k .contents-long, (c, (n, (l, (w, (r, g))))))
+
+pub kept : (b : List ℕ) → (refusal b ≡ 0) ↔ Keeps b
+kept = kept-but false
 
 -- ---- laws of bytes that keep the rules
 
-module _ {b : List ℕ} (k : Keeps b) where
+module _ {forgive : Bool} {b : List ℕ} (k : KeepsBut forgive b) where
   pub sorted : (i m : ℕ) → i ≤ m → m < said b .records → said b .move i .state ≤ said b .move m .state
   sorted i m h l = ⊎-elim (λ (e : i ≡ m). rw e (omega arith)) (λ (g : i < m). before-state (k .ascending i m g l)) (eq-or-lt-of-le h)
 

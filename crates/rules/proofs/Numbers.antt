@@ -11,7 +11,7 @@ use lib.Dec.{ltb}
 use lib.ListN.{length}
 use Rattle.rules.specs.Fault.{Fault, only, with-record, or-else}
 use Rattle.rules.specs.Bytes.{is-tall, said}
-use Rattle.rules.specs.Bytes.{contents, counts, labels, whole, records-fault, goal, fault, refusal}
+use Rattle.rules.specs.Bytes.{contents, counts, labels, whole, records-fault, goal, fault-but, refusal-but, fault, refusal}
 use Rattle.rules.specs.BadRecord.{FieldsFit, OrderFits, BadField, BadOrder}
 use Rattle.game.proofs.Tests.{ltb-iff}
 use Rattle.rules.proofs.Forms.{records-most}
@@ -87,20 +87,20 @@ abbrev Says : ℕ → Fault → Type 0
 Says n f = f .number ≡ n
 
 -- every record is good
-abbrev pub RecordsGood : List ℕ → Type 0
-RecordsGood b = (k : ℕ) → k < said b .records → FieldsFit (said b) k × OrderFits (said b) k
+abbrev pub RecordsGood : Bool → List ℕ → Type 0
+RecordsGood forgive b = (k : ℕ) → k < said b .records → FieldsFit forgive (said b) k × OrderFits (said b) k
 
 -- no number, exactly where every test lets through
-pub refusal-0 : (b : List ℕ) → (refusal b ≡ 0)
+pub refusal-0 : (forgive : Bool) (b : List ℕ) → (refusal-but forgive b ≡ 0)
     ↔ ((16 ≤ length b) × ((contents b ≡ true) × ((counts b ≡ true) × ((labels b ≡ true) × ((whole b ≡ true)
-    × (RecordsGood b × (goal b ≡ true)))))))
-refusal-0 b =
+    × (RecordsGood forgive b × (goal b ≡ true)))))))
+refusal-0 forgive b =
     past (Says 0) 1 (λ e. omega arith) (not-short b)
     (past (Says 0) 2 (λ e. omega arith) (passes (contents b))
     (past (Says 0) 3 (λ e. omega arith) (passes (counts b))
     (past (Says 0) 4 (λ e. omega arith) (passes (labels b))
     (past (Says 0) 5 (λ e. omega arith) (passes (whole b))
-    (past-first (Says 0) (records-fault (said b) (said b .records)) (λ d e. d e) (records-good-iff (said b))
+    (past-first (Says 0) (records-fault forgive (said b) (said b .records)) (λ d e. d e) (records-good-iff forgive (said b))
     (silent (goal b) 6 (omega arith)))))))
 
 -- what is wrong with the records: nothing, 12 or 13
@@ -124,28 +124,28 @@ beyond-first {f} {y} o h = go (first-of f y o)
     go (inr (inr e)) = above (omega arith)
 
 -- each number, exactly where its own test refuses and those before it let through; and 12 and 13 with the record
-pub record Numbers (b : List ℕ) : Type 0 where
-  pub is-1 : (refusal b ≡ 1) ↔ (length b < 16)
-  pub is-2 : (refusal b ≡ 2) ↔ ((16 ≤ length b) × (contents b ≡ false))
-  pub is-3 : (refusal b ≡ 3) ↔ ((16 ≤ length b) × ((contents b ≡ true) × (counts b ≡ false)))
-  pub is-4 : (refusal b ≡ 4) ↔ ((16 ≤ length b) × ((contents b ≡ true) × ((counts b ≡ true) × (labels b ≡ false))))
-  pub is-5 : (refusal b ≡ 5)
+pub record Numbers (forgive : Bool) (b : List ℕ) : Type 0 where
+  pub is-1 : (refusal-but forgive b ≡ 1) ↔ (length b < 16)
+  pub is-2 : (refusal-but forgive b ≡ 2) ↔ ((16 ≤ length b) × (contents b ≡ false))
+  pub is-3 : (refusal-but forgive b ≡ 3) ↔ ((16 ≤ length b) × ((contents b ≡ true) × (counts b ≡ false)))
+  pub is-4 : (refusal-but forgive b ≡ 4) ↔ ((16 ≤ length b) × ((contents b ≡ true) × ((counts b ≡ true) × (labels b ≡ false))))
+  pub is-5 : (refusal-but forgive b ≡ 5)
       ↔ ((16 ≤ length b) × ((contents b ≡ true) × ((counts b ≡ true) × ((labels b ≡ true) × (whole b ≡ false)))))
-  pub is-12 : (k : ℕ) → (fault b ≡ with-record 12 k)
+  pub is-12 : (k : ℕ) → (fault-but forgive b ≡ with-record 12 k)
       ↔ ((16 ≤ length b) × ((contents b ≡ true) × ((counts b ≡ true) × ((labels b ≡ true) × ((whole b ≡ true)
-      × BadField (said b) k)))))
-  pub is-13 : (k : ℕ) → (fault b ≡ with-record 13 k)
+      × BadField forgive (said b) k)))))
+  pub is-13 : (k : ℕ) → (fault-but forgive b ≡ with-record 13 k)
       ↔ ((16 ≤ length b) × ((contents b ≡ true) × ((counts b ≡ true) × ((labels b ≡ true) × ((whole b ≡ true)
-      × BadOrder (said b) k)))))
-  pub is-6 : (refusal b ≡ 6)
+      × BadOrder forgive (said b) k)))))
+  pub is-6 : (refusal-but forgive b ≡ 6)
       ↔ ((16 ≤ length b) × ((contents b ≡ true) × ((counts b ≡ true) × ((labels b ≡ true) × ((whole b ≡ true)
-      × (RecordsGood b × (goal b ≡ false)))))))
+      × (RecordsGood forgive b × (goal b ≡ false)))))))
 
-pub numbers : (b : List ℕ) → Numbers b
-numbers b =
-    let records = records-fault (said b) (said b .records) in
+pub numbers : (forgive : Bool) (b : List ℕ) → Numbers forgive b
+numbers forgive b =
+    let records = records-fault forgive (said b) (said b .records) in
     let six = beyond 5 (not (goal b)) (nothing refl) in
-    let five = beyond-first {f = records} (records-number (said b)) six in
+    let five = beyond-first {f = records} (records-number forgive (said b)) six in
     let four = beyond 4 (not (whole b)) five in
     let three = beyond 3 (not (labels b)) four in
     let two = beyond 2 (not (counts b)) three in
@@ -165,15 +165,15 @@ numbers b =
           (past (Says 5) 2 (λ e. omega arith) (passes (contents b))
           (past (Says 5) 3 (λ e. omega arith) (passes (counts b))
           (past (Says 5) 4 (λ e. omega arith) (passes (labels b)) (here 4 five (fails (whole b))))));
-      is-12 = λ k. to-records 12 k (omega arith) (bad-field-iff (said b) k);
-      is-13 = λ k. to-records 13 k (omega arith) (bad-order-iff (said b) k);
+      is-12 = λ k. to-records 12 k (omega arith) (bad-field-iff forgive (said b) k);
+      is-13 = λ k. to-records 13 k (omega arith) (bad-order-iff forgive (said b) k);
       is-6 =
           past (Says 6) 1 (λ e. omega arith) (not-short b)
           (past (Says 6) 2 (λ e. omega arith) (passes (contents b))
           (past (Says 6) 3 (λ e. omega arith) (passes (counts b))
           (past (Says 6) 4 (λ e. omega arith) (passes (labels b))
           (past (Says 6) 5 (λ e. omega arith) (passes (whole b))
-          (past-first (Says 6) records (not-6 records (records-number (said b))) (records-good-iff (said b))
+          (past-first (Says 6) records (not-6 records (records-number forgive (said b))) (records-good-iff forgive (said b))
           (here 5 (nothing refl) (fails (goal b))))))));
     }
   where
@@ -187,8 +187,8 @@ numbers b =
     differs m n k d e = d (ap (λ (f : Fault). f .number) e)
 
     -- a number that only the records give, with its record
-    to-records : (n k : ℕ) {A : Type 0} → 6 < n → (records-fault (said b) (said b .records) ≡ with-record n k) ↔ A
-        → (fault b ≡ with-record n k)
+    to-records : (n k : ℕ) {A : Type 0} → 6 < n → (records-fault forgive (said b) (said b .records) ≡ with-record n k) ↔ A
+        → (fault-but forgive b ≡ with-record n k)
         ↔ ((16 ≤ length b) × ((contents b ≡ true) × ((counts b ≡ true) × ((labels b ≡ true) × ((whole b ≡ true) × A)))))
     to-records n k far p =
         let P : Fault → Type 0 = λ f. f ≡ with-record n k in
@@ -198,7 +198,7 @@ numbers b =
         (past P 3 (differs 3 n k (λ (e : 3 ≡ n). omega arith)) (passes (counts b))
         (past P 4 (differs 4 n k (λ (e : 4 ≡ n). omega arith)) (passes (labels b))
         (past P 5 (differs 5 n k (λ (e : 5 ≡ n). omega arith)) (passes (whole b))
-        (here-first P (records-fault (said b) (said b .records))
+        (here-first P (records-fault forgive (said b) (said b .records))
         (λ e z. some (sym (ap (λ (f : Fault). f .number) e) ∙ z))
         (last (goal b)) p)))))
       where
@@ -208,32 +208,35 @@ numbers b =
 
 -- ---- the record that is named
 
-module _ (b : List ℕ) where
+module _ (forgive : Bool) (b : List ℕ) where
   abbrev Bad : ℕ → Type 0
-  Bad k = BadField (said b) k ⊎ BadOrder (said b) k
+  Bad k = BadField forgive (said b) k ⊎ BadOrder forgive (said b) k
 
   -- 12 and 13 name the first bad record: it is one of the job's, and no other could have been named
-  pub named : (refusal b ≡ 12) ⊎ (refusal b ≡ 13) → Bad (fault b .«record»)
-  named (inl e) = inl (numbers b .is-12 _ .0 (λ i. with-record (e i) (fault b .«record»)) .1 .1 .1 .1 .1)
-  named (inr e) = inr (numbers b .is-13 _ .0 (λ i. with-record (e i) (fault b .«record»)) .1 .1 .1 .1 .1)
+  pub named : (refusal-but forgive b ≡ 12) ⊎ (refusal-but forgive b ≡ 13) → Bad (fault-but forgive b .«record»)
+  named (inl e) = inl (numbers forgive b .is-12 _ .0 (λ i. with-record (e i) (fault-but forgive b .«record»)) .1 .1 .1 .1 .1)
+  named (inr e) = inr (numbers forgive b .is-13 _ .0 (λ i. with-record (e i) (fault-but forgive b .«record»)) .1 .1 .1 .1 .1)
 
-  pub named-below : (refusal b ≡ 12) ⊎ (refusal b ≡ 13) → fault b .«record» < said b .records
-  named-below e = ⊎-elim (λ (x : BadField (said b) (fault b .«record»)). x .is-record) (λ y. y .is-record) (named e)
+  pub named-below : (refusal-but forgive b ≡ 12) ⊎ (refusal-but forgive b ≡ 13) → fault-but forgive b .«record» < said b .records
+  named-below e = ⊎-elim (λ (x : BadField forgive (said b) (fault-but forgive b .«record»)). x .is-record) (λ y. y .is-record) (named e)
 
   -- and a job that comes to its records has at most 8,192
-  pub named-few : (refusal b ≡ 12) ⊎ (refusal b ≡ 13) → fault b .«record» < 8192
-  named-few e = let below = named-below e in omega (arith, whole-iff b .0 (passed e) .1, records-most (is-tall b))
+  pub named-few-but : (refusal-but forgive b ≡ 12) ⊎ (refusal-but forgive b ≡ 13) → fault-but forgive b .«record» < 8192
+  named-few-but e = let below = named-below e in omega (arith, whole-iff b .0 (passed e) .1, records-most (is-tall b))
     where
-      passed : (refusal b ≡ 12) ⊎ (refusal b ≡ 13) → whole b ≡ true
-      passed (inl e) = numbers b .is-12 _ .0 (λ i. with-record (e i) (fault b .«record»)) .1 .1 .1 .1 .0
-      passed (inr e) = numbers b .is-13 _ .0 (λ i. with-record (e i) (fault b .«record»)) .1 .1 .1 .1 .0
+      passed : (refusal-but forgive b ≡ 12) ⊎ (refusal-but forgive b ≡ 13) → whole b ≡ true
+      passed (inl e) = numbers forgive b .is-12 _ .0 (λ i. with-record (e i) (fault-but forgive b .«record»)) .1 .1 .1 .1 .0
+      passed (inr e) = numbers forgive b .is-13 _ .0 (λ i. with-record (e i) (fault-but forgive b .«record»)) .1 .1 .1 .1 .0
 
-  pub named-alone : (refusal b ≡ 12) ⊎ (refusal b ≡ 13) → (k : ℕ) → Bad k → k ≡ fault b .«record»
-  named-alone e k x = bad-unique (said b) k (fault b .«record») x (named e)
+  pub named-alone : (refusal-but forgive b ≡ 12) ⊎ (refusal-but forgive b ≡ 13) → (k : ℕ) → Bad k → k ≡ fault-but forgive b .«record»
+  named-alone e k x = bad-unique forgive (said b) k (fault-but forgive b .«record») x (named e)
 
   -- record 0 has none before it that it could come after
-  pub order-not-0 : refusal b ≡ 13 → fault b .«record» ≢ 0
-  order-not-0 e z = numbers b .is-13 0 .0 (λ i. with-record (e i) (z i)) .1 .1 .1 .1 .1 .order-out tt
+  pub order-not-0 : refusal-but forgive b ≡ 13 → fault-but forgive b .«record» ≢ 0
+  order-not-0 e z = numbers forgive b .is-13 0 .0 (λ i. with-record (e i) (z i)) .1 .1 .1 .1 .1 .order-out tt
+
+pub named-few : (b : List ℕ) → (refusal b ≡ 12) ⊎ (refusal b ≡ 13) → fault b .«record» < 8192
+named-few = named-few-but false
 
 -- ---- which numbers there are, and that the others name no record
 
@@ -246,14 +249,14 @@ pub record Told (P : ℕ → Type 0) (f : Fault) : Type 0 where
   pub among : P (f .number)
   pub no-record : f .number ≢ 12 → f .number ≢ 13 → f .«record» ≡ 0
 
-pub told : (b : List ℕ) → Told Among (fault b)
-told b =
+pub told-but : (forgive : Bool) (b : List ℕ) → Told Among (fault-but forgive b)
+told-but forgive b =
     past-test (ltb (length b) 16) (omega arith)
     (past-test (not (contents b)) (omega arith)
     (past-test (not (counts b)) (omega arith)
     (past-test (not (labels b)) (omega arith)
     (past-test (not (whole b)) (omega arith)
-    (past-records (records-number (said b))
+    (past-records (records-number forgive (said b))
     (past-test (not (goal b)) (omega arith) (one 0 (omega arith))))))))
   where
     one : (n : ℕ) → n ≤ 6 → Told Among (only n)
@@ -271,13 +274,19 @@ told b =
         go (inr (inl e)) = record { among = inr (inl e); no-record = λ d u. absurd (d e) }
         go (inr (inr e)) = record { among = inr (inr e); no-record = λ d u. absurd (u e) }
 
+pub told : (b : List ℕ) → Told Among (fault b)
+told = told-but false
+
 -- a number up to 6 is the whole of the fault
-pub plainly-said : (b : List ℕ) (n : ℕ) → n ≤ 6 → refusal b ≡ n → fault b ≡ only n
-plainly-said b n h e =
-    let z = told b .no-record (λ (o : refusal b ≡ 12). omega arith) (λ (o : refusal b ≡ 13). omega arith) in
+pub plainly-said-but : (forgive : Bool) (b : List ℕ) (n : ℕ) → n ≤ 6 → refusal-but forgive b ≡ n → fault-but forgive b ≡ only n
+plainly-said-but forgive b n h e =
+    let z = told-but forgive b .no-record (λ (o : refusal-but forgive b ≡ 12). omega arith) (λ (o : refusal-but forgive b ≡ 13). omega arith) in
     λ i. with-record (e i) (z i)
 
+pub plainly-said : (b : List ℕ) (n : ℕ) → n ≤ 6 → refusal b ≡ n → fault b ≡ only n
+plainly-said = plainly-said-but false
+
 -- past the tests before the records, their fault is the answer if there is one
-pub records-said : (b : List ℕ) → 16 ≤ length b → contents b ≡ true → counts b ≡ true → labels b ≡ true → whole b ≡ true
-    → records-fault (said b) (said b .records) .number ≢ 0 → fault b ≡ records-fault (said b) (said b .records)
-records-said b a c n l w d = rw (le-ltb (length b) 16 a, c, n, l, w) (or-first (records-fault (said b) (said b .records)) _ d)
+pub records-said : (forgive : Bool) (b : List ℕ) → 16 ≤ length b → contents b ≡ true → counts b ≡ true → labels b ≡ true → whole b ≡ true
+    → records-fault forgive (said b) (said b .records) .number ≢ 0 → fault-but forgive b ≡ records-fault forgive (said b) (said b .records)
+records-said forgive b a c n l w d = rw (le-ltb (length b) 16 a, c, n, l, w) (or-first (records-fault forgive (said b) (said b .records)) _ d)

@@ -72,6 +72,9 @@ module _ (c l m g : List ℕ) where
   past-labels y = past-counts (length l + y) ∙ getD-append-add l (m ++ g) y 0
 
   -- the bytes of the bodies
+  pub counts-byte : (y : ℕ) → y < length c → getD whole (16 + y) 0 ≡ getD c y 0
+  counts-byte y h = after y ∙ List·getD-append c (l ++ (m ++ g)) 0 y h
+
   pub labels-byte : (x y : ℕ) → y < length l → x ≡ offset whole 1 + y → getD whole x 0 ≡ getD l y 0
   labels-byte x y h e =
       let z : x ≡ 16 + (length c + y) = omega (arith, offset-1) in
@@ -112,10 +115,10 @@ module _ (f : ℕ → Move) where
 
 -- ---- a body as it stands
 
-body-long : (b : List ℕ) (i : ℕ) → offset b i + size b i ≤ length b → length (body b i) ≡ size b i
+pub body-long : (b : List ℕ) (i : ℕ) → offset b i + size b i ≤ length b → length (body b i) ≡ size b i
 body-long b i h = length-take-le (size b i) (drop (offset b i) b) (omega (arith, length-drop (offset b i) b))
 
-body-at : (b : List ℕ) (i y : ℕ) → y < size b i → getD (body b i) y 0 ≡ byte b i y
+pub body-at : (b : List ℕ) (i y : ℕ) → y < size b i → getD (body b i) y 0 ≡ byte b i y
 body-at b i y h = getD-take (size b i) (drop (offset b i) b) y 0 h ∙ getD-drop (offset b i) b y 0
 
 -- ---- a job that keeps the rules, rewritten

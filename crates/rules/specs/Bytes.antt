@@ -2,7 +2,7 @@
 -- Document 01, "A job in bytes" and "Numbers that say no", 1 to 6, and document 02's 12 and 13. The form is asked in `counted`, `move` and
 -- `said`, and by the tests of Counts and Moves; a job says nothing of it.
 use Prim.Native.Nat.{ℕ, zero, suc, _+_, _*_, _/_, _%_, _^_}
-use mathlib.Core.Bool.{Bool, true, cond, not, _&&_, _||_}
+use mathlib.Core.Bool.{Bool, true, false, cond, not, _&&_, _||_}
 use mathlib.Core.List.{List}
 use lib.Dec.{leb, ltb, eqb}
 use lib.ListN.{length, getD}
@@ -95,9 +95,9 @@ counts b =
 abbrev pub labels : List ℕ → Bool
 labels b = eqb (size b 1) (said b .states) && every-below (said b .states) (λ s. ltb (said b .label s) (width b))
 
--- the fields of a record in their ranges, with s states and a actions
-abbrev pub within : ℕ → ℕ → Move → Bool
-within s a m = ltb (m .state) s && (ltb (m .action) a && ltb (m .outcome) s)
+-- the fields of a record in their ranges, with s states and a actions; a too large outcome may be forgiven, which planning does not
+abbrev pub within-but : Bool → ℕ → ℕ → Move → Bool
+within-but forgive s a m = ltb (m .state) s && (ltb (m .action) a && (forgive || ltb (m .outcome) s))
 
 -- one record before another as triples, compared field by field
 abbrev pub before : Move → Move → Bool
@@ -116,13 +116,13 @@ abbrev pub judged : Bool → Bool → ℕ → Fault
 judged fields order k = cond (not fields) (with-record 12 k) (cond (not order) (with-record 13 k) (only 0))
 
 -- what is wrong with record k
-abbrev pub record-fault : Job → ℕ → Fault
-record-fault j k = judged (within (j .states) (j .actions) (j .move k)) (follows (j .move) k) k
+abbrev pub record-fault : Bool → Job → ℕ → Fault
+record-fault forgive j k = judged (within-but forgive (j .states) (j .actions) (j .move k)) (follows (j .move) k) k
 
 -- the first n records are judged from the front: what is wrong with the first bad one
-abbrev pub records-fault : Job → ℕ → Fault
-records-fault j zero = only 0
-records-fault j (suc k) = or-else (records-fault j k) (record-fault j k)
+abbrev pub records-fault : Bool → Job → ℕ → Fault
+records-fault forgive j zero = only 0
+records-fault forgive j (suc k) = or-else (records-fault forgive j k) (record-fault forgive j k)
 
 -- Moves has whole records, not too many: at most 12,288 bytes, or 40,960 in the tall form
 abbrev pub whole : List ℕ → Bool
@@ -135,16 +135,23 @@ goal b =
     && every-below (said b .goals) (λ q. leb (mark b q) 1))
 
 -- The first number of the table that applies to the bytes alone, with its record, or 0. 12 and 13 share one place between 5 and 6.
-abbrev pub fault : List ℕ → Fault
-fault b =
+-- A too large outcome may be forgiven: salvaging does so, and planning and every other call do not.
+abbrev pub fault-but : Bool → List ℕ → Fault
+fault-but forgive b =
     cond (ltb (length b) 16) (only 1)
     (cond (not (contents b)) (only 2)
     (cond (not (counts b)) (only 3)
     (cond (not (labels b)) (only 4)
     (cond (not (whole b)) (only 5)
-    (or-else (records-fault (said b) (said b .records))
+    (or-else (records-fault forgive (said b) (said b .records))
     (cond (not (goal b)) (only 6)
     (only 0)))))))
 
+abbrev pub refusal-but : Bool → List ℕ → ℕ
+refusal-but forgive b = fault-but forgive b .number
+
+abbrev pub fault : List ℕ → Fault
+fault b = fault-but false b
+
 abbrev pub refusal : List ℕ → ℕ
-refusal b = fault b .number
+refusal b = refusal-but false b

@@ -1,6 +1,7 @@
 -- What it is for the bytes of a job to keep the rules: document 01, "A job in bytes", a field for each rule.
 -- `kept` of proofs/Kept.antt shows that these are the bytes that no number refuses.
 use Prim.Native.Nat.{ℕ, _+_, _*_, _≤_, _<_}
+use mathlib.Core.Bool.{Bool, true, false}
 use mathlib.Core.List.{List}
 use mathlib.Core.Logic.{_⊎_}
 use mathlib.Core.Path.{_≡_}
@@ -14,7 +15,13 @@ Before m n =
     (m .state < n .state)
     ⊎ ((m .state ≡ n .state) × ((m .action < n .action) ⊎ ((m .action ≡ n .action) × (m .outcome < n .outcome))))
 
-pub record Keeps (b : List ℕ) : Type 0 where
+-- outcome t is below the count of states, or it is forgiven
+abbrev pub OutcomeFits : Bool → ℕ → ℕ → Type 0
+OutcomeFits true t states = Unit {0}
+OutcomeFits false t states = t < states
+
+-- the rules, where a too large outcome may be forgiven (document 02, request 14)
+pub record KeepsBut (forgive : Bool) (b : List ℕ) : Type 0 where
   -- the contents are 16 bytes; bodies follow in order with no gap, the first at 16, and the last ends where the job ends
   pub contents-long : 16 ≤ length b
   pub counts-at : offset b 0 ≡ 16
@@ -41,9 +48,13 @@ pub record Keeps (b : List ℕ) : Type 0 where
   pub few-records : said b .records ≤ form b .most-records
   pub state-below : (k : ℕ) → k < said b .records → said b .move k .state < said b .states
   pub action-below : (k : ℕ) → k < said b .records → said b .move k .action < said b .actions
-  pub outcome-below : (k : ℕ) → k < said b .records → said b .move k .outcome < said b .states
+  pub outcome-below : (k : ℕ) → k < said b .records → OutcomeFits forgive (said b .move k .outcome) (said b .states)
   pub ascending : (k m : ℕ) → k < m → m < said b .records → Before (said b .move k) (said b .move m)
   -- Goal: for each goal state and label a next goal state, then a mark for each goal state
   pub goal-long : size b 3 ≡ said b .goals * width b + said b .goals
   pub next-below : (q l : ℕ) → q < said b .goals → l < width b → said b .next q l < said b .goals
   pub mark-range : (q : ℕ) → q < said b .goals → mark b q ≤ 1
+
+-- the rules of a job, with nothing forgiven
+abbrev pub Keeps : List ℕ → Type 0
+Keeps b = KeepsBut false b

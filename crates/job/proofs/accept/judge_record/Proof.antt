@@ -3,7 +3,7 @@ use borrow.Author.Needs.{needs}
 use borrow.Author.Tests.{lt-ltb, le-ltb, not-true, not-false}
 use mathlib.Core.Bool.{true}
 use mathlib.Core.Path.{_≡_, sym, _∙_}
-use Rattle.rules.specs.Bytes.{within}
+use Rattle.rules.specs.Bytes.{within-but}
 use Rattle.job.proofs.accept.judge_record.Statement.{statement}
 use Rattle.job.proofs.accept.judge_record.Tie as tie
 
@@ -11,11 +11,11 @@ fields-fit-requires : tie.Need-fields-fit-requires
 fields-fit-requires c κs = search needs
 
 -- past the first test the fields are in their ranges
-passed : (c : tie.Else1) → let a = c .before .before .args in within (a .l .states) (a .l .actions) (a .m) ≡ true
+passed : (c : tie.Else1) → let a = c .before .before .args in within-but (a .forgive) (a .l .states) (a .l .actions) (a .m) ≡ true
 passed c = sym (c .before .fields-fit .ensures) ∙ not-false _ (c .if1 .left)
 
-cast-t7 : tie.Need-cast-t7
-cast-t7 c = search needs
+cast-t8 : tie.Need-cast-t8
+cast-t8 c = search needs
 
 returns : tie.Need-returns
 returns c = rw (sym (c .before .fields-fit .ensures) ∙ not-true _ (c .if1 .taken))
@@ -28,8 +28,8 @@ returns-2 c =
     let o = c .before in
     rw (passed (o .before), sym (o .join .ensures), lt-ltb _ _ (c .if2 .taken))
 
-cast-t10 : tie.Need-cast-t10
-cast-t10 c = search needs
+cast-t11 : tie.Need-cast-t11
+cast-t11 c = search needs
 
 returns-3 : tie.Need-returns-3
 returns-3 c =
@@ -41,9 +41,9 @@ judge-record-spec =
     tie.close
     (tie.spec
     fields-fit-requires
-    cast-t7
+    cast-t8
     returns
     join-requires
     returns-2
-    cast-t10
+    cast-t11
     returns-3)

@@ -15,11 +15,11 @@ use Rattle.job.proofs.accept.judge_records.Statement.{statement}
 use Rattle.job.proofs.accept.judge_records.Tie as tie
 
 abbrev Inv-loop : tie.InvT-loop
-Inv-loop job l n last₀ k₀ last k =
-    (k ≤ n) × (records-fault (said job) k .number ≡ 0) × (last ≡ previous (said job .move) k)
+Inv-loop job l forgive n last₀ k₀ last k =
+    (k ≤ n) × (records-fault forgive (said job) k .number ≡ 0) × (last ≡ previous (said job .move) k)
 
 abbrev μ-loop : tie.MeasureT-loop
-μ-loop job l n last₀ k₀ last k = n - k
+μ-loop job l forgive n last₀ k₀ last k = n - k
 
 -- where Moves lies in the job
 lain : (s : tie.Start Inv-loop μ-loop) → Bodies (s .args .job .now) (s .args .l)
@@ -28,14 +28,14 @@ lain s = bodies (s .args .job .now) (s .args .l) (s .pre .0)
 -- what a turn finds of record k
 judged : (c : tie.After-judge-record Inv-loop μ-loop)
     → let t = c .before .before .before in
-    verdict-fault (c .judge-record .result) ≡ record-fault (said (t .before .before .args .job .now)) (t .loop .k)
+    verdict-fault (c .judge-record .result) ≡ record-fault (t .before .before .args .forgive) (said (t .before .before .args .job .now)) (t .loop .k)
 judged c =
     let t = c .before .before .before in
     let s = t .before .before in
     let b = s .args .job .now in
     let byte : (i : ℕ) → getD b i 0 < 256 = λ i. omega (arith, t .before .shared-slice-known .given i) in
     c .judge-record .ensures
-    ∙ rw (c .before .nth-record .ensures, t .loop .inv .2) (fault-is b (s .args .l) byte (s .pre .0 .is-layout) (t .loop .k))
+    ∙ rw (c .before .nth-record .ensures, t .loop .inv .2) (fault-is (s .args .forgive) b (s .args .l) byte (s .pre .0 .is-layout) (t .loop .k))
 
 loop-holds : tie.Need-loop-holds Inv-loop μ-loop
 loop-holds c = (omega arith, refl, refl)
@@ -59,7 +59,7 @@ returns c =
     let why = c .before .why .given .0 .0 in
     let e = ap verdict-fault (sym (c .before .why .given .1)) ∙ judged j in
     e
-    ∙ sym (records-stop (said (s .args .job .now)) (s .args .l .records) (t .loop .k) (omega arith) (t .loop .inv .1)
+    ∙ sym (records-stop (s .args .forgive) (said (s .args .job .now)) (s .args .l .records) (t .loop .k) (omega arith) (t .loop .inv .1)
     (λ z. omega (arith, refusal-some why .1, ap (λ (f : Fault). f .number) e)))
 
 enum-told : tie.Need-enum-told Inv-loop μ-loop
@@ -84,7 +84,7 @@ loop-again c =
     let b = s .args .job .now in
     let e = ap verdict-fault (sym (g .enum-told .given .1)) ∙ judged j in (
       omega arith,
-      records-more (said b) (t .loop .k) (t .loop .inv .1) (sym (ap (λ (f : Fault). f .number) e)),
+      records-more (s .args .forgive) (said b) (t .loop .k) (t .loop .inv .1) (sym (ap (λ (f : Fault). f .number) e)),
       c .join .ensures ∙ ap joined {y = record-of b (s .args .l) (t .loop .k)} (r .nth-record .ensures) ∙ previous-is b (s .args .l) (s .pre .0 .is-layout) (t .loop .k),
     )
 
@@ -93,7 +93,7 @@ returns-2 c =
     let t = c .before in
     let s = t .before .before in
     let e : t .loop .k ≡ s .args .l .records = omega arith in
-    sym (records-none (said (s .args .job .now)) (s .args .l .records) (rw e at (t .loop .inv .1)))
+    sym (records-none (s .args .forgive) (said (s .args .job .now)) (s .args .l .records) (rw e at (t .loop .inv .1)))
 
 pub judge-records-spec : {M : Type 1} → statement M
 judge-records-spec =
