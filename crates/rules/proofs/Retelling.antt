@@ -260,13 +260,13 @@ module _ {b : List ℕ} (k : Keeps b) where
 
 -- ---- it is bytes, where the job is
 
-record Bytes (xs : List ℕ) : Type 0 where
+pub record Bytes (xs : List ℕ) : Type 0 where
   pub at : (y : ℕ) → getD xs y 0 < 256
 
-none-bytes : Bytes []
+pub none-bytes : Bytes []
 none-bytes = record { at = λ y. omega arith }
 
-cons-bytes : {x : ℕ} {xs : List ℕ} → x < 256 → Bytes xs → Bytes (x ∷ xs)
+pub cons-bytes : {x : ℕ} {xs : List ℕ} → x < 256 → Bytes xs → Bytes (x ∷ xs)
 cons-bytes {x} {xs} h t = record { at = go }
   where
     go : (y : ℕ) → getD (x ∷ xs) y 0 < 256
@@ -276,19 +276,19 @@ cons-bytes {x} {xs} h t = record { at = go }
 rest-bytes : {x : ℕ} {xs : List ℕ} → Bytes (x ∷ xs) → Bytes xs
 rest-bytes s = record { at = λ y. s .at (suc y) }
 
-two-bytes : (n : ℕ) {xs : List ℕ} → n < 65536 → Bytes xs → Bytes (two n xs)
+pub two-bytes : (n : ℕ) {xs : List ℕ} → n < 65536 → Bytes xs → Bytes (two n xs)
 two-bytes n h t = cons-bytes (omega arith) (cons-bytes (omega arith) t)
 
-append-bytes : {xs ys : List ℕ} → Bytes xs → Bytes ys → Bytes (xs ++ ys)
+pub append-bytes : {xs ys : List ℕ} → Bytes xs → Bytes ys → Bytes (xs ++ ys)
 append-bytes {xs = []} s t = t
 append-bytes {xs = x ∷ xs} s t = cons-bytes (s .at 0) (append-bytes (rest-bytes s) t)
 
-take-bytes : (n : ℕ) {xs : List ℕ} → Bytes xs → Bytes (take n xs)
+pub take-bytes : (n : ℕ) {xs : List ℕ} → Bytes xs → Bytes (take n xs)
 take-bytes zero s = none-bytes
 take-bytes (suc n) {xs = []} s = none-bytes
 take-bytes (suc n) {xs = x ∷ xs} s = cons-bytes (s .at 0) (take-bytes n (rest-bytes s))
 
-body-bytes : (b : List ℕ) (i : ℕ) → Bytes b → Bytes (body b i)
+pub body-bytes : (b : List ℕ) (i : ℕ) → Bytes b → Bytes (body b i)
 body-bytes b i h = take-bytes (size b i) (record { at = λ y. rw (getD-drop (offset b i) b y 0) (h .at (offset b i + y)) })
 
 moves-bytes : (f : ℕ → Move) (n : ℕ) → ((i : ℕ) → i < n → Bytes (tall-record (f i))) → Bytes (tall-moves f n)

@@ -9,8 +9,8 @@ use lib.ListN.{length, take, drop, length-append}
 use lib.Seq.{length-take-le, take-append-seam}
 use Rattle.io.specs.Counts.{Counts}
 use Rattle.rules.specs.Fault.{Fault}
-use Rattle.rules.specs.Bytes.{fault, refusal}
-use Rattle.rules.proofs.Numbers.{named-few, Among, told}
+use Rattle.rules.specs.Bytes.{fault-but, refusal-but, fault, refusal}
+use Rattle.rules.proofs.Numbers.{named-few-but, Among, told-but}
 use Rattle.text.specs.PutText.{PutText}
 use Rattle.text.specs.Lines.{decimal, bytes, value-word, line-of, names-record, refusal-line}
 use Rattle.text.proofs.Digits.{decimal-length}
@@ -30,12 +30,22 @@ short-refusal f h k = go (names-record f)
     go false = simp length-append (omega (arith, decimal-length (f .number) 1 (omega arith)))
 
 -- what refuses a job's bytes is small enough for that
-pub fault-few : (b : List ℕ) → Among (refusal b) → (refusal b < 100) × (fault b .«record» < 10000)
-fault-few b (inl h) = (
+pub fault-few-but : (forgive : Bool) (b : List ℕ) → Among (refusal-but forgive b)
+    → (refusal-but forgive b < 100) × (fault-but forgive b .«record» < 10000)
+fault-few-but forgive b (inl h) = (
   omega arith,
-  omega (arith, told b .no-record (λ (e : refusal b ≡ 12). omega arith) (λ (e : refusal b ≡ 13). omega arith)),
+  omega (
+    arith,
+    told-but forgive b .no-record (λ (e : refusal-but forgive b ≡ 12). omega arith) (λ (e : refusal-but forgive b ≡ 13). omega arith),
+  ),
 )
-fault-few b (inr e) = (⊎-elim (λ (x : refusal b ≡ 12). omega arith) (λ (x : refusal b ≡ 13). omega arith) e, omega (arith, named-few b e))
+fault-few-but forgive b (inr e) = (
+  ⊎-elim (λ (x : refusal-but forgive b ≡ 12). omega arith) (λ (x : refusal-but forgive b ≡ 13). omega arith) e,
+  omega (arith, named-few-but forgive b e),
+)
+
+pub fault-few : (b : List ℕ) → Among (refusal b) → (refusal b < 100) × (fault b .«record» < 10000)
+fault-few = fault-few-but false
 
 -- a text put at the beginning of a buffer that has room for it is the buffer's first n bytes
 pub put-front : {out left t : List ℕ} {n : ℕ} → PutText out 0 t left n → length t ≤ length out → Counts n left × (take n left ≡ t)
