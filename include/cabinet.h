@@ -67,6 +67,9 @@ extern "C" {
 /* The longest Goal body that is written from slips: three clauses over six propositions. */
 #define CABINET_GOAL_MAX 1755
 
+/* Room for every list of removed pairs: three bytes for each of 8,192 records. */
+#define CABINET_PAIRS_MAX 24576
+
 /* Numbers that say no; 0 is success. In a call that reads a job the first in this order that applies is the answer, though 12 and 13 share
    one place, which the first bad record decides. In `cabinet_goal` 14 and 15 come before 7, and `cabinet_judge`, which reads no job,
    gives 19 to 22 in their order. */
@@ -81,7 +84,7 @@ enum cabinet_refusal {
   CABINET_ORDER = 13,      /* a record does not come after the one before it, compared field by field; `record` says which */
   CABINET_GOAL = 6,        /* Goal has the wrong length, a goal state is not below Q, or a mark is above 1 */
   CABINET_SLIPS = 18,      /* more than 3 slips of the arm */
-  CABINET_ROOM = 7,        /* the plan buffer is under 4 * S * Q bytes, for K slips under K + 1 times that, or the Goal body has no room */
+  CABINET_ROOM = 7,        /* the plan buffer is under 4 * S * Q bytes, for K slips under K + 1 times that, or the Goal body, the salvaged job or the list of pairs has no room */
   CABINET_MEMORY = 17,     /* the index is under S + records words, or the counters are under S * Q * A */
   CABINET_PLACE = 9,       /* the state is not below S, the goal state is not below Q, or more slips are left than the plans are for */
   CABINET_ENTRY = 10,      /* the plan's entry has none of the four shapes */
@@ -156,6 +159,10 @@ typedef struct {
   uint32_t refusal, holds;
 } cabinet_judged;
 
+typedef struct {
+  uint32_t refusal, job_length, pairs_length, record;
+} cabinet_salvaged;
+
 /* Plans the job into the buffer: entry s * Q + q, four bytes, says of state s with goal state q its value, its action (255: none) and
    its number, low byte first. Bytes beyond the plan stay as they are, and a refusal changes nothing in the plan buffer. Gives 1 to 7, 12, 13. */
 cabinet_planned cabinet_plan(const uint8_t *job, size_t job_len, uint8_t *plan, size_t plan_len);
@@ -221,6 +228,17 @@ cabinet_advised cabinet_advice_slips(const uint8_t *job, size_t job_len, uint32_
    A clause of slips is the formula 21 a (existence), 22 16 a (absence), 22 16 17 a 16 21 b (response), 16 17 16 19 16 b a 16 22 16 b (precedence), and
    clauses are joined by 17: the answer is then that of the Goal body which `cabinet_goal` writes. Gives 19 to 22. */
 cabinet_judged cabinet_judge(const uint8_t *formula, size_t formula_len, const uint8_t *trace, size_t trace_len);
+
+/* Salvages a job whose records name outcomes that are no states, as when states were deleted from a table by hand. Every record of a state and action
+   with any such outcome is removed, since an action that lost one outcome alone would look safer than it is; the other records are kept in order, and the
+   contents are written anew (the length of Moves and the offset of Goal). The form and all else stay as they are, busy marks too. The removed pairs are
+   listed in order, each once, three bytes each in both forms: the state in two, low byte first, then the action. Both lengths are returned; bytes
+   beyond them stay as they are. A good job comes out byte for byte with no pairs, and so does a salvaged one. What is winning after salvage is winning,
+   with a number no larger, in every job that keeps all else and gives the removed pairs any outcomes or none. The job is judged as it came and as in
+   planning, with an outcome of S or more forgiven and nothing else: a state or an action out of range is 12 even beside such an outcome, and records
+   must ascend with their outcomes as they stand. Then 7 where an output is shorter than what it must hold; an output shorter than the job may do, and
+   CABINET_JOB_MAX and CABINET_PAIRS_MAX bytes always do. A refusal leaves both untouched. Gives 1 to 7, 12, 13. */
+cabinet_salvaged cabinet_salvage(const uint8_t *job, size_t job_len, uint8_t *salvaged, size_t salvaged_len, uint8_t *pairs, size_t pairs_len);
 
 /* In short:
 

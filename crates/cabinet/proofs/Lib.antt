@@ -19,3 +19,4 @@ pub mod Plate
 pub mod Behaving
 pub mod ByIndex
 pub mod ArmSlips
+pub mod Mending

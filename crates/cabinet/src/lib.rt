@@ -6,3 +6,4 @@ pub mod goals;
 pub mod indexed;
 pub mod judges;
 pub mod place;
+pub mod salvaging;
