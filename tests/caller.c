@@ -2,8 +2,8 @@
    and ends with status 0 and the count of calls when all answers were right. At the first wrong one it says which call of which input it was, and ends with status 1.
 
    A lent buffer ends at a page that can be neither read nor written, or begins right after one. The job's pages can only be read, and so can the
-   plan's but in a call that is to write it, and the index's and the counters'. Slips and formulas are lent where a job is, traces where a plan is, and a Goal body is written there.
-   The plans for slips of the arm, one for each count, have memory of their own. `caller N`, N from 0 to 14, steps over one of these fences. */
+   plan's but in a call that is to write it, and the index's and the counters'. Slips and formulas are lent where a job is, traces where a plan is, and a Goal body or a salvaged job is
+   written there, and a list of pairs where counters are. The plans for slips of the arm, one for each count, have memory of their own. `caller N`, N from 0 to 14, steps over one of these fences. */
 
 #define _DEFAULT_SOURCE
 #include <signal.h>
@@ -18,7 +18,8 @@
 
 enum { PAGE = 4096, JOB_SIZE = 28 * PAGE, PLAN_SIZE = 17 * PAGE, INDEX_SIZE = 5 * PAGE, COUNTERS_SIZE = 130 * PAGE, LAYERS_SIZE = 65 * PAGE };
 enum { INPUT, DUE, LEND, PLAN, START, FOLLOW, ADVICE, TIME, GOAL, DUE_INDEX, INDEXED, CHECK, TIME_START, TIME_FOLLOW, TIME_CHECK,
-       DUE_LAYERS, LEND_LAYERS, PLAN_SLIPS, ADVICE_SLIPS, TIME_SLIPS, JUDGE, JUDGE_ALL, TIME_JUDGE };
+       DUE_LAYERS, LEND_LAYERS, PLAN_SLIPS, ADVICE_SLIPS, TIME_SLIPS, JUDGE, JUDGE_ALL, TIME_JUDGE,
+       DUE_PAIRS, SALVAGE };
 
 /* A line: what to do, the side of the fence (1: buffers begin after it), how many bytes come after it, the call's figures, the answer that is due. */
 static struct {
@@ -36,7 +37,8 @@ static fenced jobs = {NULL, JOB_SIZE, PROT_NONE}, plans = {NULL, PLAN_SIZE, PROT
 static fenced indexes = {NULL, INDEX_SIZE, PROT_NONE}, counts = {NULL, COUNTERS_SIZE, PROT_NONE}, layers = {NULL, LAYERS_SIZE, PROT_NONE};
 
 static uint8_t due_plan[PLAN_SIZE], due_index[INDEX_SIZE], zeros[COUNTERS_SIZE], pool[2 * COUNTERS_SIZE], due_layers[LAYERS_SIZE];
-static uint32_t job_len, due_len, due_index_len, due_counters_len, due_layers_len, lent_len, lent_layers_len, input[2], calls;
+static uint32_t job_len, due_len, due_index_len, due_counters_len, due_layers_len, due_pairs_len, lent_len, lent_layers_len, input[2], calls;
+static uint8_t due_pairs[CABINET_PAIRS_MAX];
 static unsigned long long all_calls;
 
 static void fail(const char *why) {
@@ -119,7 +121,7 @@ static void same_memory(const uint8_t *lent, uint32_t refusal) {
   same_bytes("plan", plans.inside + end, before + end, PLAN_SIZE - end, (long)due_len);
 }
 
-/* So many bytes beside a buffer of words or of plans for slips are held to as well, on the side where it touches no fence. */
+/* So many bytes beside a buffer of words, of plans for slips or of pairs are held to as well, on the side where it touches no fence. */
 enum { BESIDE = 256 };
 
 /* Where the bytes that are filled and held to begin, and how many they are. */
@@ -161,6 +163,15 @@ static cabinet_planned plan_indexed(const uint8_t *job, const uint32_t *f) {
   same_beside("index", &indexes, index_size, due_index, due_index_len, planned.refusal);
   same_beside("counters", &counts, counters_size, zeros, 2 * (size_t)due_counters_len, planned.refusal);
   return planned;
+}
+
+/* Salvages into the memory of plans, with room for so many bytes of pairs in that of counters. */
+static cabinet_salvaged salvage(const uint8_t *job, const uint32_t *f) {
+  uint8_t *lent = lend(f[0]), *pairs = lend_beside(&counts, f[2]);
+  cabinet_salvaged salvaged = cabinet_salvage(job, job_len, lent, f[0], pairs, f[2]);
+  same_memory(lent, salvaged.refusal);
+  same_beside("pairs", &counts, f[2], due_pairs, due_pairs_len, salvaged.refusal);
+  return salvaged;
 }
 
 /* The time of so many calls of planning, by the second engine where it is asked for, or of writing a goal over so many propositions, in nanoseconds. */
@@ -260,6 +271,9 @@ static void call(void) {
   } else if (line.what == INDEXED) {
     cabinet_planned planned = plan_indexed(job, f);
     answer[0] = planned.refusal, answer[1] = planned.record;
+  } else if (line.what == SALVAGE) {
+    cabinet_salvaged salvaged = salvage(job, f);
+    answer[0] = salvaged.refusal, answer[1] = salvaged.job_length, answer[2] = salvaged.pairs_length, answer[3] = salvaged.record;
   } else if (line.what == GOAL) {
     uint8_t *lent = lend(f[0]);
     cabinet_written goal = cabinet_goal(job, job_len, f[2], lent, f[0]);
@@ -326,6 +340,10 @@ int main(int words, char **word) {
     case DUE_INDEX:
       due_index_len = line.length, due_counters_len = line.figures[0];
       if (due_index_len > sizeof due_index || fread(due_index, 1, due_index_len, stdin) != due_index_len) fail("a line without its bytes");
+      break;
+    case DUE_PAIRS:
+      due_pairs_len = line.length;
+      if (due_pairs_len > sizeof due_pairs || fread(due_pairs, 1, due_pairs_len, stdin) != due_pairs_len) fail("a line without its bytes");
       break;
     case LEND: lent_len = take(&plans); break;
     case DUE_LAYERS:

@@ -54,6 +54,8 @@ enum What {
     Judge,
     JudgeAll,
     TimeJudge,
+    DuePairs,
+    Salvage,
 }
 
 /// What went wrong: the number of the input, which of its calls it was, and how.
@@ -138,6 +140,11 @@ impl Cases {
         self.line(What::DueIndex, Side::Begin, &bytes, [counters as u32, 0, 0, 0], [0; 5]);
     }
 
+    /// The pairs that salvaging has to list.
+    pub fn due_pairs(&mut self, pairs: &[u8]) {
+        self.line(What::DuePairs, Side::Begin, pairs, [0; 4], [0; 5]);
+    }
+
     /// The bytes that advice and the check get as their plan, and judging as its trace.
     pub fn lend(&mut self, side: Side, plan: &[u8]) {
         self.line(What::Lend, side, plan, [0; 4], [0; 5]);
@@ -173,6 +180,9 @@ impl Cases {
                 (What::AdviceSlips, side, [slips, state, goal, left])
             }
             Call::Judge { side, .. } => (What::Judge, side, [0; 4]),
+            Call::Salvage { room, before, pairs_room, side } => {
+                (What::Salvage, side, [room as u32, before, pairs_room as u32, 0])
+            }
         };
         self.line(what, side, &[], figures, due);
         self.calls.push(call);

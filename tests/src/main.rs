@@ -12,13 +12,14 @@ mod months;
 mod oracle;
 mod random;
 mod report;
+mod salvages;
 mod slips;
 mod trembling;
 
 use cases::Cases;
 use check::Desk;
 use make::Inputs;
-use std::io::Read;
+use std::io::{Read, Write};
 use std::time::Instant;
 
 const SEED: u64 = 20_251_115;
@@ -38,6 +39,8 @@ cabinet-tests checks [SEED]        plans from elsewhere, every tie and many chan
 cabinet-tests trembling [SEED]     slips of the arm: every larger place, every count of slips, short and long buffers
 cabinet-tests judges [SEED]        recorded runs, all short ones and many more, beside an evaluator over trees
 cabinet-tests judge                the line that the oracle prints of the two lines on standard input
+cabinet-tests salvages [SEED]      jobs with bad outcomes, both outputs byte by byte, and completions of what was removed
+cabinet-tests salvage              the job that the oracle salvages from standard input, and on standard error what it says
 cabinet-tests listings WORDS       the listing program, started by these words, beside the oracle's listing
 cabinet-tests report               the oracle's report of the bundle on standard input
 cabinet-tests reports WORDS        the report program, started by these words, beside the oracle's report";
@@ -123,6 +126,19 @@ fn command(words: &[String]) -> Option<()> {
             }
         }
         "judge" => println!("{}", judging::told()),
+        "salvages" => {
+            if !salvages::agree(seed_at(1)?) {
+                println!("but not every answer and every kind of job has come up");
+                std::process::exit(1);
+            }
+        }
+        "salvage" => {
+            let mut input = Vec::new();
+            std::io::stdin().read_to_end(&mut input).expect("standard input can be read");
+            let (job, text) = oracle::salvage_text(&input);
+            std::io::stdout().write_all(&job).expect("standard output can be written");
+            eprint!("{text}");
+        }
         "list" => told(oracle::listing),
         "report" => told(oracle::report),
         "check" => {

@@ -76,6 +76,13 @@ pub enum Call {
         trace_len: usize,
         side: Side,
     },
+    /// The bytes before it in both outputs are chosen by a figure.
+    Salvage {
+        room: usize,
+        before: u32,
+        pairs_room: usize,
+        side: Side,
+    },
 }
 
 impl Display for Call {
@@ -106,6 +113,9 @@ impl Display for Call {
                 write!(to, "left {left}; {side}")
             }
             Call::Judge { trace_len, side } => write!(to, "cabinet_judge, trace_len {trace_len}; {side}"),
+            Call::Salvage { room, pairs_room, side, .. } => {
+                write!(to, "cabinet_salvage, salvaged_len {room}, pairs_len {pairs_room}; {side}")
+            }
         }
     }
 }

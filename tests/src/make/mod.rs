@@ -105,6 +105,63 @@ pub fn listed(seed: u64, number: u64) -> Vec<u8> {
     }
 }
 
+/// A good job from whose table states were deleted by hand: the last ones, with their labels and their own records, while outcomes that named them are left;
+/// or one in which some outcomes are changed to what is no state. The records stay in order.
+pub fn torn(seed: u64, number: u64) -> Vec<u8> {
+    let random = &mut Random::new(seed ^ 0x5a1f, number);
+    let mut parts = if number % 500 == 0 { valid::job(random, random_full(number)) } else { sound(random) };
+    let (form, states) = (parts.form(), parts.states());
+    let mut records = parts.records();
+    let left = if states > 1 && !random.once_in(3) { states - random.between(1, states.min(4) - 1) } else { states };
+    parts.set_count(0, left);
+    parts.set_count(4, parts.count(4) % left);
+    parts.labels.truncate(left);
+    records.retain(|record| usize::from(record[0]) < left);
+    let largest = if form == Form::Old { 255 } else { 65_535 };
+    for record in &mut records {
+        if left == states && random.once_in(6) {
+            record[2] = random.pick(&[left, left + 1, 255.max(left), largest]).min(largest) as u16;
+        }
+    }
+    records.sort_unstable();
+    records.dedup();
+    parts.moves = form.records(&records);
+    parts.bytes()
+}
+
+fn random_full(number: u64) -> Size {
+    let full = if number % 1_000 == 0 { FULL } else { TALL };
+    Size { propositions: 1, goals: 2, ..full }
+}
+
+/// As many pairs as a form has, each with one record, whose outcome is no state.
+pub fn all_torn(tall: bool) -> Vec<u8> {
+    let form = if tall { Form::Tall } else { Form::Old };
+    let states = form.most_states() as u16;
+    let records: Vec<parts::Record> = (0..states).flat_map(|state| (0..16).map(move |action| [state, action, states])).collect();
+    let counts = form.counts([states.into(), 16, 0, 1, 0, 0]);
+    Parts { counts, labels: vec![0; states.into()], moves: form.records(&records), goal: vec![0, 1] }.bytes()
+}
+
+/// A good job with the records of another one, which are put in order.
+pub fn with_records(job: &[u8], records: Vec<[usize; 3]>) -> Vec<u8> {
+    let mut parts = Parts::of(job);
+    let mut records: Vec<parts::Record> = records.into_iter().map(|record| record.map(|figure| figure as u16)).collect();
+    records.sort_unstable();
+    parts.moves = parts.form().records(&records);
+    parts.bytes()
+}
+
+/// How many records a job's form allows.
+pub fn most_records(job: &[u8]) -> usize {
+    Parts::of(job).form().most_moves()
+}
+
+/// Every other value of every byte of a job.
+pub fn every_change(job: &[u8]) -> Vec<Vec<u8>> {
+    changes_of(job)
+}
+
 pub struct Inputs {
     seed: u64,
     fixed: Vec<(&'static str, Vec<u8>)>,

@@ -124,6 +124,16 @@ impl Parts {
         self.moves[at..at + widths[field]].copy_from_slice(&value.to_le_bytes()[..widths[field]]);
     }
 
+    /// All records, field by field.
+    pub fn records(&self) -> Vec<Record> {
+        let two = |low: u8, high: u8| u16::from_le_bytes([low, high]);
+        let one = |bytes: &[u8]| match *bytes {
+            [s, s_high, a, t, t_high] => [two(s, s_high), a.into(), two(t, t_high)],
+            _ => [bytes[0], bytes[1], bytes[2]].map(u16::from),
+        };
+        self.moves.chunks(self.form().width()).map(one).collect()
+    }
+
     pub fn states(&self) -> usize {
         self.count(0)
     }

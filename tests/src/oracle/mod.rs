@@ -8,6 +8,7 @@ mod month;
 mod plan;
 mod read;
 mod refusal;
+mod salvaging;
 mod waves;
 
 pub use calls::Answer;
@@ -16,6 +17,7 @@ pub use month::report;
 pub use plan::{entries, Entry, LOSING, PENDING, WINNING};
 pub use read::{read, Job};
 pub use refusal::*;
+pub use salvaging::{salvage, salvage_text, Salvage};
 
 /// Everything that the calls answer on one string of job bytes.
 pub struct Oracle {

@@ -61,7 +61,7 @@ impl Job {
 }
 
 /// The four bodies, cut out by the table of contents.
-fn bodies(job: &[u8]) -> Result<[&[u8]; 4], u32> {
+pub fn bodies(job: &[u8]) -> Result<[&[u8]; 4], u32> {
     if job.len() < 16 {
         return Err(SHORT);
     }
@@ -111,7 +111,8 @@ fn read_labels(body: &[u8], states: usize, possible: usize) -> Result<(Vec<usize
     good.then_some((labels, busy)).ok_or(LABELS)
 }
 
-fn read_moves(body: &[u8], tall: bool, states: usize, actions: usize) -> Result<Vec<Move>, Refused> {
+/// Outcomes lie below a limit of their own: the count of states, or no limit where too large ones are forgiven.
+fn read_moves(body: &[u8], tall: bool, [states, actions, outcomes]: [usize; 3]) -> Result<Vec<Move>, Refused> {
     let (width, most) = if tall { (5, 40_960) } else { (3, 12_288) };
     if !body.len().is_multiple_of(width) || body.len() > most {
         return Err(MOVES.into());
@@ -125,7 +126,7 @@ fn read_moves(body: &[u8], tall: bool, states: usize, actions: usize) -> Result<
         _ => Move { state: at[0].into(), action: at[1].into(), outcome: at[2].into() },
     };
     let moves: Vec<Move> = body.chunks(width).map(record).collect();
-    let inside = |one: &Move| one.state < states && one.action < actions && one.outcome < states;
+    let inside = |one: &Move| one.state < states && one.action < actions && one.outcome < outcomes;
     for (record, one) in moves.iter().enumerate() {
         let number = if !inside(one) {
             FIELD
@@ -151,12 +152,17 @@ fn read_goal(body: &[u8], goals: usize, possible: usize) -> Result<(Vec<usize>, 
 }
 
 pub fn read(job: &[u8]) -> Result<Job, Refused> {
+    judged(job, false)
+}
+
+/// Reads a job, with too large outcomes forgiven where it is asked for; its moves then name states that are not there.
+pub fn judged(job: &[u8], forgive: bool) -> Result<Job, Refused> {
     let [counts, labels, moves, goal] = bodies(job)?;
     let tall = counts.len() == 8;
     let [states, actions, propositions, goals, first_state, first_goal] = read_counts(counts)?;
     let labels_possible = 1 << propositions;
     let (labels, busy) = read_labels(labels, states, labels_possible)?;
-    let moves = read_moves(moves, tall, states, actions)?;
+    let moves = read_moves(moves, tall, [states, actions, if forgive { usize::MAX } else { states }])?;
     let (next, last) = read_goal(goal, goals, labels_possible)?;
     let before = |state: usize| moves.partition_point(|record| record.state < state);
     let of_state = (0..states).map(|state| before(state)..before(state + 1)).collect();
