@@ -1,8 +1,7 @@
 -- The text of an answer, by the case that was matched; and lines that are the same, place by place.
-use Prim.Native.Nat.{ℕ, zero, suc, _<_}
-use mathlib.Core.List.{List, _++_}
+use Prim.Native.Nat.{ℕ, _<_}
+use mathlib.Core.List.{List}
 use mathlib.Core.Path.{_≡_, refl, sym, ap, subst, _∙_}
-use native.Mathlib.Omega.{arith}
 use lib.Dec.{eqb·suc-zero}
 use Rattle.game.specs.Below.{upto, each}
 use Rattle.rules.specs.Answers.{refusal-fault, advised-figures}
@@ -15,7 +14,7 @@ use Rattle.cabinet.specs.declared.place.Moved.{Moved}
 use Rattle.cabinet.specs.declared.place.Place.{Place}
 use Rattle.text.specs.PutText.{PutText}
 use Rattle.text.specs.Lines.{refusal-line}
-use Rattle.text.proofs.Repeating.{each-last}
+use Rattle.text.proofs.Repeating.{each-same}
 use Rattle.listing.specs.Listing.{lines}
 use Rattle.listing.specs.Told.{or-refused, advice-line, value-line, moved-line}
 
@@ -53,14 +52,7 @@ pub moved-says : (b p : List ℕ) (x : Place) (k : ℕ)
 unfolding moved-line
 moved-says b p x k = refl
 
--- ---- the numbers below n in order
-
-each-same : (f g : ℕ → List ℕ) (n : ℕ) → ((k : ℕ) → k < n → f k ≡ g k) → each (upto n) f ≡ each (upto n) g
-each-same f g zero h = refl
-each-same f g (suc n) h =
-    each-last f (upto n) n
-    ∙ (λ i. each-same f g n (λ k l. h k (omega arith)) i ++ h n (omega arith) i)
-    ∙ sym (each-last g (upto n) n)
+-- ---- the lines of all places
 
 pub lines-same : (f g : ℕ → ℕ → List ℕ) (S Q : ℕ) → ((s q : ℕ) → s < S → q < Q → f s q ≡ g s q) → lines f S Q ≡ lines g S Q
 lines-same f g S Q h =

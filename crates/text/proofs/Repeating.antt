@@ -1,7 +1,7 @@
 -- A text for each number below n, one after another: what a loop that puts them leaves.
 use Prim.Native.Nat.{ℕ, zero, suc, _+_, _*_, _≤_, _<_}
 use mathlib.Core.List.{List, [], _∷_, _++_, append-assoc, append-nil}
-use mathlib.Core.Path.{_≡_, sym, ap, subst, _∙_}
+use mathlib.Core.Path.{_≡_, refl, sym, ap, subst, _∙_}
 use native.Mathlib.Nat.{suc-mul}
 use native.Mathlib.Numerals.{add-one}
 use native.Mathlib.Omega.{arith}
@@ -18,6 +18,14 @@ each-last f (k ∷ is) i = ap (λ (t : List ℕ). f k ++ t) (each-last f is i) �
 pub put-next : (f : ℕ → List ℕ) (k : ℕ) {l m n : List ℕ} {at p q : ℕ} → PutText l at (each (upto k) f) m p → PutText m p (f k) n q
     → PutText l at (each (upto (k + 1)) f) n q
 put-next f k a b = rw (add-one k, each-last f (upto k) k) (put-then a b)
+
+-- texts that are the same, one by one
+pub each-same : (f g : ℕ → List ℕ) (n : ℕ) → ((k : ℕ) → k < n → f k ≡ g k) → each (upto n) f ≡ each (upto n) g
+each-same f g zero h = refl
+each-same f g (suc n) h =
+    each-last f (upto n) n
+    ∙ (λ i. each-same f g n (λ k l. h k (omega arith)) i ++ h n (omega arith) i)
+    ∙ sym (each-last g (upto n) n)
 
 -- the loop's end
 pub put-upto : (f : ℕ → List ℕ) (k n : ℕ) {l m : List ℕ} {at p : ℕ} → k ≤ n → n ≤ k → PutText l at (each (upto k) f) m p

@@ -1,0 +1,2 @@
+-- What the program that salvages a job prints.
+pub mod Mends
