@@ -41,6 +41,7 @@ cabinet-tests judges [SEED]        recorded runs, all short ones and many more, 
 cabinet-tests judge                the line that the oracle prints of the two lines on standard input
 cabinet-tests salvages [SEED]      jobs with bad outcomes, both outputs byte by byte, and completions of what was removed
 cabinet-tests salvage              the job that the oracle salvages from standard input, and on standard error what it says
+cabinet-tests mended WORDS         the program that salvages, started by these words, beside the oracle
 cabinet-tests listings WORDS       the listing program, started by these words, beside the oracle's listing
 cabinet-tests report               the oracle's report of the bundle on standard input
 cabinet-tests reports WORDS        the report program, started by these words, beside the oracle's report";
@@ -138,6 +139,12 @@ fn command(words: &[String]) -> Option<()> {
             let (job, text) = oracle::salvage_text(&input);
             std::io::stdout().write_all(&job).expect("standard output can be written");
             eprint!("{text}");
+        }
+        "mended" if words.len() > 1 => {
+            if !salvages::programs_agree(&words[1..], SEED) {
+                println!("but not everything that the program can say has come up");
+                std::process::exit(1);
+            }
         }
         "list" => told(oracle::listing),
         "report" => told(oracle::report),

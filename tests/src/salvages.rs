@@ -7,12 +7,16 @@ use crate::oracle::{self, salvage, Oracle, Refused, Salvage, WINNING};
 use crate::random::Random;
 use crate::report::{self, Call, Input};
 use std::collections::BTreeSet;
+use std::io::Write;
+use std::process::{Command, Stdio};
 
 /// Jobs made to be salvaged, and inputs of the ordinary run.
 const TORN: u64 = 9_000;
 const MIXED: u64 = 15_000;
 /// So many completions of each small job that lost pairs.
 const COMPLETIONS: usize = 3;
+/// Jobs that the program is run on.
+const RUNS: u64 = 150;
 /// So many records are cheap enough to plan often.
 const CHEAP: usize = 300;
 
@@ -76,7 +80,8 @@ impl Desk<'_> {
                     self.seen.compared += 1;
                     self.seen.fell += u64::from(is.number < was.number);
                     if is.value != WINNING || is.number > was.number {
-                        let wrong = format!("place {place} is {was:?} after salvage, {is:?} in {}", report::hex(&whole));
+                        let wrong =
+                            format!("place {place} is {was:?} after salvage, {is:?} in {}", report::hex(&whole));
                         report::stop(input, None, &wrong);
                     }
                 }
@@ -94,7 +99,8 @@ impl Desk<'_> {
         }
         let left = oracle::read(&salvaged.job).expect("a salvaged job is good");
         self.seen.with_pairs[tall] += 1;
-        self.seen.beside += u64::from(left.moves.iter().any(|one| salvaged.removed.iter().any(|&(s, _)| s == one.state)));
+        self.seen.beside +=
+            u64::from(left.moves.iter().any(|one| salvaged.removed.iter().any(|&(s, _)| s == one.state)));
         self.seen.emptied += u64::from(left.moves.is_empty());
     }
 
@@ -111,7 +117,8 @@ impl Desk<'_> {
         for side in [Side::End, Side::Begin] {
             self.cases.input(input.number, side, &input.job);
             let any = [long + random.below(50), listed + random.below(50)];
-            let rooms = [[long, listed], any, [long.saturating_sub(1), listed], [long, listed.saturating_sub(1)], [0, 0]];
+            let rooms =
+                [[long, listed], any, [long.saturating_sub(1), listed], [long, listed.saturating_sub(1)], [0, 0]];
             for [room, pairs_room] in rooms {
                 let before = random.word() as u32;
                 self.call(&due, side, before, [room.min(PLAN_SIZE), pairs_room.min(2 * COUNTERS_WORDS)]);
@@ -154,9 +161,12 @@ impl Desk<'_> {
         let every = self.every.len() as u64;
         match number {
             0..2 => Input { seed, number, kind: "as many pairs as there are", job: make::all_torn(number == 1) },
-            _ if number < 2 + every => {
-                Input { seed, number, kind: "a torn plate, one byte changed", job: self.every[number as usize - 2].clone() }
-            }
+            _ if number < 2 + every => Input {
+                seed,
+                number,
+                kind: "a torn plate, one byte changed",
+                job: self.every[number as usize - 2].clone(),
+            },
             _ if number < 2 + every + TORN => Input { seed, number, kind: "torn", job: make::torn(seed, number) },
             _ => Input { number, ..self.inputs.get(number - 2 - every - TORN) },
         }
@@ -201,7 +211,9 @@ pub fn agree(seed: u64) -> bool {
     let seen = std::mem::take(&mut desk.seen);
     if let Some(wrong) = std::mem::replace(&mut desk.cases, Cases::none()).end() {
         let input = match wrong.number.checked_sub(count) {
-            Some(plate) => Input { seed, number: wrong.number, kind: "a torn plate", job: plates()[plate as usize].clone() },
+            Some(plate) => {
+                Input { seed, number: wrong.number, kind: "a torn plate", job: plates()[plate as usize].clone() }
+            }
             None => desk.get(seed, wrong.number),
         };
         if wrong.number < count {
@@ -210,8 +222,61 @@ pub fn agree(seed: u64) -> bool {
         let call = desk.cases.calls.get(wrong.call).copied();
         report::stop(&input, call.as_ref(), &wrong.how);
     }
-    println!("salvaged with pairs {:?} and without {:?}, old and tall; answers {:?}", seen.with_pairs, seen.without, seen.answers);
-    println!("{} completions: {} winning places compared, {} with a smaller number", seen.completions, seen.compared, seen.fell);
+    println!(
+        "salvaged with pairs {:?} and without {:?}, old and tall; answers {:?}",
+        seen.with_pairs, seen.without, seen.answers
+    );
+    println!(
+        "{} completions: {} winning places compared, {} with a smaller number",
+        seen.completions, seen.compared, seen.fell
+    );
     println!("{count} jobs, {} calls agree", seen.calls);
     seen.covered()
+}
+
+/// What the program writes and says of these bytes.
+fn printed(words: &[String], job: &[u8]) -> (Vec<u8>, String) {
+    let mut command = Command::new(&words[0]);
+    command.args(&words[1..]).stdin(Stdio::piped()).stdout(Stdio::piped()).stderr(Stdio::piped());
+    let mut process = command.spawn().expect("the program can be started");
+    // A program that has taken in enough may end before all is written.
+    let mut to = process.stdin.take().expect("a pipe");
+    let _ = to.write_all(job);
+    drop(to);
+    let output = process.wait_with_output().expect("the program ends");
+    (output.stdout, String::from_utf8_lossy(&output.stderr).into_owned())
+}
+
+/// Holds the program to the oracle; says whether everything that it can say has come up.
+pub fn programs_agree(words: &[String], seed: u64) -> bool {
+    let inputs = Inputs::new(seed);
+    let torn = (0..RUNS).map(|number| Input { seed, number, kind: "torn", job: make::torn(seed, number) });
+    let mixed = (0..RUNS).map(|number| inputs.get(inputs.fixed() + number));
+    let edges = make::known::edges().into_iter().map(|(job, _)| Input { seed, number: 0, kind: "edge", job });
+    let most = [false, true].map(|tall| Input {
+        seed,
+        number: 0,
+        kind: "as many pairs as there are",
+        job: make::all_torn(tall),
+    });
+    let long = Input { seed, number: 0, kind: "too long", job: vec![0; 2 * oracle::TAKEN] };
+    let (mut seen, mut count) = (BTreeSet::new(), 0);
+    for input in torn.chain(mixed).chain(edges).chain(most).chain([long]) {
+        let due = oracle::salvage_text(&input.job);
+        let found = printed(words, &input.job);
+        if found != due {
+            report::stop(&input, None, &format!("said {:?}, due {:?}, or the job differs", found.1, due.1));
+        }
+        let last = due.1.lines().last().unwrap_or("").to_string();
+        let kind = if last.starts_with("refused") {
+            last.split(' ').take(2).collect::<Vec<_>>().join(" ")
+        } else {
+            (due.1.lines().count() > 1).to_string()
+        };
+        seen.insert(kind);
+        count += 1;
+    }
+    println!("salvage: {count} jobs agree, by the program");
+    let refusals = [1, 2, 3, 4, 5, 6, 12, 13].map(|number| format!("refused {number}"));
+    refusals.iter().all(|kind| seen.contains(kind)) && seen.contains("true") && seen.contains("false")
 }

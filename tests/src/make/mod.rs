@@ -112,7 +112,11 @@ pub fn torn(seed: u64, number: u64) -> Vec<u8> {
     let mut parts = if number % 500 == 0 { valid::job(random, random_full(number)) } else { sound(random) };
     let (form, states) = (parts.form(), parts.states());
     let mut records = parts.records();
-    let left = if states > 1 && !random.once_in(3) { states - random.between(1, states.min(4) - 1) } else { states };
+    let left = if states > 1 && !random.once_in(3) {
+        states - random.between(1, states.min(4) - 1)
+    } else {
+        states
+    };
     parts.set_count(0, left);
     parts.set_count(4, parts.count(4) % left);
     parts.labels.truncate(left);
@@ -138,7 +142,8 @@ fn random_full(number: u64) -> Size {
 pub fn all_torn(tall: bool) -> Vec<u8> {
     let form = if tall { Form::Tall } else { Form::Old };
     let states = form.most_states() as u16;
-    let records: Vec<parts::Record> = (0..states).flat_map(|state| (0..16).map(move |action| [state, action, states])).collect();
+    let records: Vec<parts::Record> =
+        (0..states).flat_map(|state| (0..16).map(move |action| [state, action, states])).collect();
     let counts = form.counts([states.into(), 16, 0, 1, 0, 0]);
     Parts { counts, labels: vec![0; states.into()], moves: form.records(&records), goal: vec![0, 1] }.bytes()
 }
@@ -146,7 +151,8 @@ pub fn all_torn(tall: bool) -> Vec<u8> {
 /// A good job with the records of another one, which are put in order.
 pub fn with_records(job: &[u8], records: Vec<[usize; 3]>) -> Vec<u8> {
     let mut parts = Parts::of(job);
-    let mut records: Vec<parts::Record> = records.into_iter().map(|record| record.map(|figure| figure as u16)).collect();
+    let mut records: Vec<parts::Record> =
+        records.into_iter().map(|record| record.map(|figure| figure as u16)).collect();
     records.sort_unstable();
     parts.moves = parts.form().records(&records);
     parts.bytes()

@@ -32,7 +32,8 @@ pub fn salvage(bytes: &[u8]) -> Result<Salvage, Refused> {
         end += body.len();
     }
     let salvaged = [&salvaged, counts, labels, &kept, goal].concat();
-    let pairs = removed.iter().flat_map(|&(state, action)| [state % 256, state / 256, action].map(|figure| figure as u8));
+    let pairs =
+        removed.iter().flat_map(|&(state, action)| [state % 256, state / 256, action].map(|figure| figure as u8));
     Ok(Salvage { job: salvaged, pairs: pairs.collect(), removed, gone })
 }
 
