@@ -1,4 +1,5 @@
-// What depends on the form of a job, old or tall: the sizes, the limits, and how Counts and a record are read. No other code asks the form.
+// What depends on the form of a job, old or tall: the sizes, the limits, and how Counts and a record are read. No other code asks the form,
+// but salvaging how many bytes a record has.
 ghost use mathlib.Core.Path.{_≡_};
 ghost use Prim.Native.Nat.{_+_, _*_, _≤_};
 ghost use lib.ListN.{length};
