@@ -93,15 +93,19 @@ pub fn pause(words: &[String]) -> Duration {
     4 * start.elapsed() + Duration::from_millis(2)
 }
 
-/// Ends the run unless the pieces come apart: a program that reads only once must be found.
-fn pieces_come_apart(words: &[String], pause: Duration) {
+/// The pause, made longer until the pieces come apart: a program that reads only once must be found. A busy machine may start programs late.
+fn pieces_come_apart(words: &[String], mut pause: Duration) -> Duration {
     let once = ["sh", "-c", "dd bs=65536 count=1 2>/dev/null | \"$@\"", "sh"];
     let once: Vec<String> = once.map(String::from).into_iter().chain(words.iter().cloned()).collect();
     let plate = make::known::one_plate();
-    if printed(&once, &plate, &[7], pause).stdout == oracle::listing(&plate).as_bytes() {
-        println!("a listing that reads once is not found");
-        std::process::exit(1);
+    for _ in 0..6 {
+        if printed(&once, &plate, &[7], pause).stdout != oracle::listing(&plate).as_bytes() {
+            return pause;
+        }
+        pause *= 3;
     }
+    println!("a listing that reads once is not found");
+    std::process::exit(1);
 }
 
 /// Ends the run at the first text that differs; otherwise says whether everything has come up.
@@ -113,8 +117,7 @@ pub fn agree(words: &[String], seed: u64) -> bool {
     let made =
         (0..MADE).map(|number| Input { seed, number, kind: "made for the listing", job: make::listed(seed, number) });
     let mixed = (0..MIXED).map(|number| inputs.get(inputs.fixed() + number));
-    let (mut seen, mut count, pause) = (Seen::default(), 0, pause(words));
-    pieces_come_apart(words, pause);
+    let (mut seen, mut count, pause) = (Seen::default(), 0, pieces_come_apart(words, pause(words)));
     for input in given.chain(edges).chain(made).chain(mixed) {
         let random = &mut Random::new(!seed, input.number);
         let pieces = if count % IN_PIECES == 0 { random.between(1, 4) } else { 0 };
