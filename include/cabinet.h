@@ -213,7 +213,8 @@ cabinet_checked cabinet_check(const uint8_t *job, size_t job_len, const uint8_t 
    left, so that a winning place is won within its number though all of its slips happen, and a pending one may be helped by a slip. `slips`, K, is 0 to
    3, and the buffer gets K + 1 plans, slips 0 first: entry (k * S + s) * Q + q says of state s with goal state q and k slips left what an entry says. With K = 0 it is
    `cabinet_plan`, byte for byte, and the first plan is that one for every K. Bytes beyond the plans stay as they are, and a refusal changes nothing. Gives
-   1 to 6, 12, 13, then 18 for K above 3, then 7 for less than CABINET_PLAN_SLIPS_BYTES(S, Q, K). */
+   1 to 6, 12, 13, then 18 for K above 3, then 7 for less than CABINET_PLAN_SLIPS_BYTES(S, Q, K). It goes by rounds, as `cabinet_plan` does, over K + 1 times the
+   places: a tall job whose numbers reach into the thousands takes minutes. */
 cabinet_planned cabinet_plan_slips(const uint8_t *job, size_t job_len, uint32_t slips, uint8_t *plan, size_t plan_len);
 
 /* What plans for up to `slips` slips say of a place with `left` of them left. To follow them, begin with `left` = K; hand `cabinet_follow` the action that
@@ -253,7 +254,7 @@ cabinet_salvaged cabinet_salvage(const uint8_t *job, size_t job_len, uint8_t *sa
        if (at.refusal != CABINET_OK) break;           // an outcome that the table does not list: at is no place any more
      }
 
-   With slips of the arm, `left` = K at first, the advice is cabinet_advice_slips(job, job_len, K, plan, sizeof plan, at.state, at.goal, left), and a move is:
+   With slips of the arm, plan has CABINET_PLAN_SLIPS_MAX bytes and `left` = K at first, the advice is cabinet_advice_slips(job, job_len, K, plan, sizeof plan, at.state, at.goal, left), and a move is:
 
        uint32_t done = what_was_done(), outcome = where_it_led();
        at = cabinet_follow(job, job_len, at.state, at.goal, done, outcome);

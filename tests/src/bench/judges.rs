@@ -19,7 +19,7 @@ pub fn print(cases: &mut Cases) {
     println!();
     println!("| walks | time |");
     println!("|---|---:|");
-    for (name, walk, holds) in [("always", 22, 1), ("eventually", 21, 0), ("until", 19, 0)] {
+    for (name, walk, holds) in [("always", 22, 1), ("eventually", 21, 0), ("until", 19, 1)] {
         let (formula, trace) = judging::worst(walk);
         println!("| {name} | {} |", table::unit(time(cases, &formula, &trace, holds)));
     }

@@ -84,9 +84,9 @@ fn trace(random: &mut Random, longest: usize) -> Vec<u8> {
     (0..random.between(1, longest)).map(|_| random.below(if few { 4 } else { 64 }) as u8).collect()
 }
 
-/// A formula of 64 nodes under three nested walks that each go to the last of 64 labels, of this operator.
+/// A formula of 64 nodes with three nested walks that each go to the last of 64 labels, of this operator.
 pub fn worst(walk: u8) -> (Vec<u8>, Vec<u8>) {
-    let head = if walk == 19 { [19, 0].repeat(3) } else { vec![walk; 3] };
+    let head = if walk == 19 { [vec![16], [19, 0].repeat(3)].concat() } else { vec![walk; 3] };
     let ands = (64 - head.len() - 1) / 2;
     let formula = [head, vec![17; ands], vec![if walk == 22 { 0 } else { 1 }; ands + 1]].concat();
     (formula, vec![1; 64])
