@@ -1,7 +1,7 @@
 -- What is said of a salvaged job, from what salvaging leaves in buffers that always have room.
 use Prim.Native.Nat.{ℕ, _+_, _*_, _/_, _-_, _≤_, _<_}
 use mathlib.Core.Bool.{Bool, true, false}
-use mathlib.Core.List.{List, [], _++_}
+use mathlib.Core.List.{List, _++_}
 use mathlib.Core.Logic.{_≢_, ⊎-elim}
 use mathlib.Core.Path.{_≡_, refl, sym, ap, ap₂, _∙_, subst, subst⁻¹}
 use native.Mathlib.Nat.{mul-le-mul, le-refl}
@@ -13,7 +13,7 @@ use Rattle.sets.specs.Sets.{count}
 use Rattle.sets.proofs.Sizes.{count-le}
 use Rattle.game.specs.Below.{upto, each}
 use Rattle.rules.specs.Form.{word, form-of}
-use Rattle.rules.specs.Fault.{Fault, only}
+use Rattle.rules.specs.Fault.{Fault}
 use Rattle.rules.specs.Bytes.{offset, size, is-tall, form, said}
 use Rattle.rules.specs.Keeps.{KeepsBut}
 use Rattle.rules.proofs.Kept.{kept-but, records-few, states-few, length-most}
@@ -23,13 +23,12 @@ use Rattle.text.specs.Lines.{decimal, bytes, refusal-line}
 use Rattle.text.proofs.Digits.{decimal-length}
 use Rattle.text.proofs.Repeating.{each-same, short-each}
 use Rattle.text.proofs.Lengths.{short-refusal, fault-few-but, put-front}
-use Rattle.salvage.specs.Mended.{lists, bad-pair}
+use Rattle.salvage.specs.Mended.{lists}
 use Rattle.salvage.specs.Salvage.{salvaged, removed, Salvaging, refused, no-room, done}
 use Rattle.salvage.proofs.Bodies.{salvaged-length, many-few, records-many}
 use Rattle.salvage.proofs.Kept.{salvaged-keeps}
 use Rattle.salvage.proofs.Listing.{removed-length, removed-pairs}
 use Rattle.salvage.proofs.Mending.{bad-iff}
-use Rattle.salvage.proofs.Unique.{salvaging-short}
 use Rattle.rules.proofs.Arenas.{is-from-iff}
 use Rattle.mend.specs.Mends.{pair-line, listed-line, mended-text, Mends, refuses, mends, Mended}
 

@@ -2,7 +2,7 @@
 use Prim.Native.Nat.{ℕ, zero, suc, _+_, _*_, _/_, _%_, _-_, _≤_, _<_}
 use mathlib.Core.Bool.{Bool, true, false, cond, _&&_}
 use mathlib.Core.List.{List, [], _∷_, _++_}
-use mathlib.Core.Path.{_≡_, refl, sym, _∙_, ap, ap₂, subst}
+use mathlib.Core.Path.{_≡_, sym, _∙_, ap, ap₂, subst}
 use native.Mathlib.Omega.{arith}
 use borrow.Author.Tests.{not-true}
 use lib.ListN.{length, getD, take, drop, length-drop, take-append-drop}
@@ -13,13 +13,13 @@ use Rattle.rules.specs.Bytes.{offset, size, is-tall, said}
 use Rattle.rules.specs.Keeps.{KeepsBut, Keeps}
 use Rattle.rules.specs.Retold.{two, job-of, body}
 use Rattle.rules.proofs.Kept.{moves-end, length-most}
-use Rattle.rules.proofs.Retelling.{Bytes, none-bytes, cons-bytes, two-bytes, append-bytes, take-bytes, body-bytes, body-long, body-at}
+use Rattle.rules.proofs.Retelling.{Bytes, none-bytes, two-bytes, append-bytes, take-bytes, body-bytes, body-long, body-at}
 use Rattle.salvage.specs.Mended.{spoilt, stays, first-of-pair, lists}
 use Rattle.salvage.specs.Salvage.{gathered, record-bytes, pair-bytes, moves-kept, removed, salvaged}
 use Rattle.salvage.proofs.Keeping.{count-all, gathered-none}
 use Rattle.salvage.proofs.Mending.{all-stay}
 use Rattle.salvage.proofs.AsPlanning.{keeps-forgiven}
-use Rattle.salvage.proofs.Bodies.{many, wide, many-bytes, kept-length, kept-at, counts-long, labels-long, goal-long, salvaged-length}
+use Rattle.salvage.proofs.Bodies.{wide, many-bytes, kept-length, kept-at, counts-long, labels-long, goal-long}
 use Rattle.salvage.proofs.Kept.{salvaged-keeps}
 
 -- ---- a job is its contents and its four bodies

@@ -1,12 +1,11 @@
 -- All other faults are refused as in planning: salvaging refuses with planning's own number and record, save where planning names a record of
 -- which nothing but the outcome is wrong.
-use Prim.Native.Nat.{ℕ, zero, suc, _≤_, _<_}
+use Prim.Native.Nat.{ℕ, _≤_, _<_}
 use mathlib.Core.Bool.{Bool, true, false, cond, not}
 use mathlib.Core.List.{List}
 use mathlib.Core.Logic.{_⊎_, inl, inr, ⊎-elim, _≢_}
 use mathlib.Core.Path.{_≡_, refl, sym, _∙_, ap}
 use native.Mathlib.Omega.{arith}
-use borrow.Author.Tests.{not-true}
 use lib.Dec.{ltb}
 use lib.ListN.{length}
 use Rattle.sets.proofs.Bits.{below-or}

@@ -1,23 +1,21 @@
 -- The bytes of the salvaged job: where its bodies are and what they hold. Each law holds in both forms.
-use Prim.Native.Nat.{ℕ, suc, _+_, _*_, _/_, _-_, _^_, _≤_, _<_}
+use Prim.Native.Nat.{ℕ, _+_, _*_, _/_, _-_, _^_, _≤_, _<_}
 use mathlib.Core.Bool.{Bool, true, false}
 use mathlib.Core.List.{List}
-use mathlib.Core.Logic.{inl, inr}
 use mathlib.Core.Path.{_≡_, refl, sym, _∙_, ap, ap₂, subst, subst₂}
 use native.Mathlib.Nat.{mul-le-mul, le-refl}
 use native.Mathlib.Omega.{arith}
 use lib.Arith.{digits-lt}
 use lib.Dec.{eqb}
-use lib.ListN.{length, getD, take, drop, length-drop}
+use lib.ListN.{length, getD, drop, length-drop}
 use lib.Seq.{getD-take, getD-drop, length-take-le}
-use Rattle.sets.specs.Sets.{bit, count}
+use Rattle.sets.specs.Sets.{count}
 use Rattle.sets.proofs.Sizes.{count-le}
-use Rattle.rules.specs.Form.{Form, word, form-of}
+use Rattle.rules.specs.Form.{word, form-of}
 use Rattle.rules.specs.Bytes.{offset, size, byte, is-tall, form, counted, width, rows, mark, said}
 use Rattle.rules.specs.Keeps.{KeepsBut}
 use Rattle.rules.specs.Retold.{body, SameJob}
 use Rattle.rules.specs.declared.place.Counts.{Counts}
-use Rattle.rules.specs.declared.place.Move.{Move}
 use Rattle.rules.proofs.Forms.{counts-sized}
 use Rattle.rules.proofs.Kept.{labels-end, moves-end, goal-end}
 use Rattle.rules.proofs.Retelling.{job-long, offset-1, offset-2, offset-3, size-0, size-1, size-2, size-3}

@@ -1,5 +1,5 @@
 -- The salvaged job keeps the rules, and it is one of the jobs that keep all else.
-use Prim.Native.Nat.{ℕ, suc, _+_, _*_, _^_, _≤_, _<_}
+use Prim.Native.Nat.{ℕ, _+_, _*_, _≤_, _<_}
 use mathlib.Core.Bool.{Bool, true, false, not}
 use mathlib.Core.List.{List}
 use mathlib.Core.Path.{_≡_, refl, sym, _∙_, ap, ap₂, subst, subst₂}
@@ -10,7 +10,7 @@ use Rattle.sets.specs.Sets.{count}
 use Rattle.game.proofs.Tests.{same-test}
 use Rattle.rules.specs.Form.{form-of}
 use Rattle.rules.specs.Job.{is-record, recorded}
-use Rattle.rules.specs.Bytes.{offset, form, width, mark, said}
+use Rattle.rules.specs.Bytes.{form, said}
 use Rattle.rules.specs.Keeps.{Before, KeepsBut, Keeps}
 use Rattle.rules.specs.declared.place.Move.{Move}
 use Rattle.rules.proofs.Arenas.{recorded-iff, is-record-iff, is-from-iff}
@@ -18,7 +18,7 @@ use Rattle.salvage.specs.Mended.{bad-pair, stays, KeepsRest}
 use Rattle.salvage.specs.Salvage.{salvaged}
 use Rattle.salvage.proofs.Keeping.{count-up, count-passing}
 use Rattle.salvage.proofs.Mending.{stays-below}
-use Rattle.salvage.proofs.Bodies.{many, wide, many-few, labels-at, moves-at, goal-at, counts-size, labels-size, moves-size, goal-size}
+use Rattle.salvage.proofs.Bodies.{many-few, labels-at, moves-at, goal-at, counts-size, labels-size, moves-size, goal-size}
 use Rattle.salvage.proofs.Bodies.{salvaged-length, same-form, width-same, mark-same, records-many, record-kept, record-of, salvaged-says}
 
 module _ {b : List ℕ} (k : KeepsBut true b) where

@@ -1,6 +1,6 @@
 -- Which pairs of a job are bad and which records stay, where the records ascend: records of one state and action lie together, so that one
 -- pass finds whether a pair stays.
-use Prim.Native.Nat.{ℕ, zero, suc, _+_, _-_, _≤_, _<_}
+use Prim.Native.Nat.{ℕ, suc, _+_, _≤_, _<_}
 use mathlib.Core.Bool.{Bool, true, false, not, _&&_}
 use mathlib.Core.Logic.{_⊎_, inl, inr, ⊎-elim, _↔_, Iff·rfl}
 use mathlib.Core.Path.{_≡_, refl, sym, _∙_, ap, ap₂, subst}
@@ -9,9 +9,8 @@ use native.Mathlib.Omega.{arith}
 use borrow.Author.Tests.{not-true, not-false, le-ltb, ltb-false}
 use lib.Dec.{ltb, eqb}
 use Rattle.sets.specs.Sets.{count}
-use Rattle.game.specs.Below.{some-below}
 use Rattle.game.proofs.Search.{clash, if-not-false, if-not-true, has-lowest}
-use Rattle.game.proofs.Tests.{same-test, some-iff, and-iff, ltb-iff, eqb-iff, last-or-below, last-met}
+use Rattle.game.proofs.Tests.{some-iff, and-iff, eqb-iff, last-or-below, last-met}
 use Rattle.rules.specs.Job.{Job, is-from}
 use Rattle.rules.specs.Keeps.{Before}
 use Rattle.rules.proofs.Arenas.{is-from-iff}

@@ -6,7 +6,7 @@ use mathlib.Core.Path.{_≡_, refl, sym, _∙_, ap, ap₂, subst, subst₂}
 use native.Mathlib.Numerals.{add-one}
 use native.Mathlib.Omega.{arith}
 use borrow.Author.Tests.{not-false}
-use lib.ListN.{length, take, drop}
+use lib.ListN.{take, drop}
 use Rattle.sets.specs.Sets.{one, count}
 use Rattle.sets.proofs.Sizes.{count-le}
 use Rattle.game.proofs.Search.{clash}

@@ -1,5 +1,5 @@
 -- The promise of salvaging fixes its answer and both buffers; and what it says of a good job, of a salvaged one, and of the lengths.
-use Prim.Native.Nat.{ℕ, _+_, _*_, _≤_}
+use Prim.Native.Nat.{ℕ, _+_, _≤_}
 use mathlib.Core.List.{List, _++_}
 use mathlib.Core.Logic.{⊎-elim}
 use mathlib.Core.Path.{_≡_, refl, sym, _∙_, ap, subst}

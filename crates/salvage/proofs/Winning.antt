@@ -12,7 +12,7 @@ use Rattle.game.proofs.Grown.{Grown, winning-grown, wins-grown}
 use Rattle.game.proofs.Following.{right-allowed, says-wins}
 use Rattle.game.proofs.Demands.{value-told}
 use Rattle.rules.specs.Job.{Job, place, entered, recorded, arena}
-use Rattle.rules.specs.Bytes.{width, said}
+use Rattle.rules.specs.Bytes.{said}
 use Rattle.rules.specs.Fault.{Fault}
 use Rattle.rules.specs.Keeps.{KeepsBut, Keeps}
 use Rattle.rules.specs.Calls.{Planning}

@@ -5,10 +5,10 @@ use mathlib.Core.List.{List, [], _++_, append-assoc}
 use mathlib.Core.Logic.{inl, inr}
 use mathlib.Core.Path.{_≡_, refl, sym, _∙_, ap, ap₂, subst}
 use native.Mathlib.Omega.{arith}
-use lib.ListN.{length, take, drop, length-append, length-drop}
-use lib.Seq.{take-all, take-add, drop-drop, length-take-le}
+use lib.ListN.{length, take, drop, length-append}
+use lib.Seq.{take-add, drop-drop}
 use Rattle.rules.specs.Fault.{only}
-use Rattle.rules.specs.Bytes.{offset, size, form, said}
+use Rattle.rules.specs.Bytes.{offset, size, form}
 use Rattle.rules.specs.Retold.{two, body}
 use Rattle.rules.proofs.Kept.{kept-but, length-most}
 use Rattle.job.specs.Layout.{FitBut}

@@ -2,7 +2,6 @@
 use borrow.Author.Needs.{needs}
 use mathlib.Core.Path.{refl}
 use native.Mathlib.Omega.{arith}
-use Rattle.rules.specs.Answers.{refusal-fault}
 use Rattle.rules.proofs.Figures.{refusal-some}
 use Rattle.mend.proofs.Mending.{mended-refused, mended-done, mended-said}
 use Rattle.mend.proofs.mend.Statement.{statement}

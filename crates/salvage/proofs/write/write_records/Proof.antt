@@ -1,5 +1,4 @@
 -- `write::write_records` meets its contract: what is gathered of the records passed is put into both outputs, and the rest stays.
-use borrow.Author.Needs.{needs}
 use mathlib.Core.Path.{_≡_, refl}
 use Prim.Native.Nat.{_-_, _≤_}
 use native.Mathlib.Omega.{arith}
