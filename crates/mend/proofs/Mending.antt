@@ -72,6 +72,13 @@ module _ (b : List ℕ) (k : KeepsBut true b) where
       let all = mul-le-mul few-pairs (le-refl 30) in
       simp length-append (omega (arith, lines, all, decimal-length gone 3 (omega arith)))
 
+-- two jobs that may be written of one input are the same, and so is what is said
+pub mends-unique : {b new new′ text text′ : List ℕ} → Mends b new text → Mends b new′ text′ → (new ≡ new′) × (text ≡ text′)
+mends-unique (refuses n) (refuses m) = (refl, refl)
+mends-unique (refuses n) (mends e) = absurd (n e)
+mends-unique (mends e) (refuses n) = absurd (n e)
+mends-unique (mends e) (mends d) = (refl, refl)
+
 pub mends-short : {b new text : List ℕ} → Mends b new text → length text ≤ 245782
 mends-short {b} (refuses n) = let (h, l) = fault-few-but true b (told-but true b .among) in omega (arith, short-refusal _ h l)
 mends-short {b} (mends e) = let k = kept-but true b .0 e in short-text b k _ (omega (arith, records-few k))

@@ -1,5 +1,5 @@
 -- All other faults are refused as in planning: salvaging refuses with planning's own number and record, save where planning names a record of
--- which nothing but the outcome is wrong.
+-- which the outcome is out of range and no other field. The order of that record may be wrong too: then salvaging says 13 of it.
 use Prim.Native.Nat.{ℕ, _≤_, _<_}
 use mathlib.Core.Bool.{Bool, true, false, cond, not}
 use mathlib.Core.List.{List}
@@ -21,7 +21,7 @@ use Rattle.rules.proofs.Faults.{bad-field-iff, bad-order-iff}
 use Rattle.rules.proofs.Kept.{kept, kept-but}
 use Rattle.salvage.specs.Salvage.{salvage-fault}
 
--- Nothing but the outcome of record k is wrong: it is not below S.
+-- The outcome of record k is not below S, and its other fields are in range. Of its order this says nothing.
 pub record OutcomeLarge (j : Job) (k : ℕ) : Type 0 where
   pub is-record : k < j .records
   pub state-fits : j .move k .state < j .states
@@ -72,7 +72,7 @@ table false false false true x₅ r s y d = inl refl
 table false false false false true r s y d = inl refl
 table false false false false false r s y d = inr (or-first s y d)
 
--- The refusal is planning's own, or else an outcome was too large: planning names the record, and nothing else is wrong with it.
+-- The refusal is planning's own, or else an outcome was too large: planning names the record, and no other field of it is out of range.
 pub forgives-only : (b : List ℕ) → (salvage-fault b ≡ fault b) ⊎ ((k : ℕ) × (fault b ≡ with-record 12 k) × OutcomeLarge (said b) k)
 forgives-only b = go (records-as (said b) (first-fault false (said b) (said b .records)))
   where
