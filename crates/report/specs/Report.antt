@@ -27,11 +27,11 @@ abbrev pub report : Totals → List ℕ
 report t =
     count-lines (t .counts) 11 ++ (figure-line (t .«winning_sum») ++ (figure-line (t .«pending_sum») ++ largest-line (t .largest)))
 
+-- the text of 23
+abbrev pub refused : List ℕ
+refused = bytes "refused 23\n"
+
 -- `Tells b text`: the text is printed of the bytes b
 pub data Tells (b : List ℕ) : List ℕ → Type 0 where
-  refuses : (Bundle b → ⊥) → Tells b (bytes "refused 23\n")
+  refuses : (Bundle b → ⊥) → Tells b refused
   reports : {t : Totals} → Bundle b → Reported (jobs b) t → Tells b (report t)
-
--- the text is printed of some bytes
-abbrev pub Told : List ℕ → Type 0
-Told text = (b : List ℕ) × Tells b text

@@ -8,8 +8,8 @@ ghost use Rattle.text.specs.PutText.{PutText};
 ghost use Rattle.totals.specs.Classes.{entry-room};
 ghost use Rattle.totals.specs.Reported.{Gathered};
 ghost use Rattle.totals.specs.Bundle.{entries, contents-fit};
-ghost use Rattle.report.specs.Report.{figure-line, count-lines, largest-line, report, Told};
-ghost use Rattle.report.specs.Read.{Came-of, Entries, GoodContents};
+ghost use Rattle.report.specs.Report.{figure-line, count-lines, largest-line, report, refused};
+ghost use Rattle.report.specs.Read.{Came-of, MonthOf, told, Told};
 use totals::bundle::CONTENTS_ROOM;
 use totals::class::Class;
 use totals::class::ENTRY_ROOM;
@@ -75,16 +75,38 @@ fn report_whole(out: &mut [u8; ROOM], t: Totals) -> usize
     put_report(out, t)
 }
 
-// Writes the text that is to be printed of a bundle: what is handed over here is what the program prints.
-fn print(text: &[u8])
-    requires { ⌜ Told (now text) ⌝ }
+// Says 23, and nothing else.
+fn refusal_whole(out: &mut [u8; ROOM]) -> usize
+    ensures { λ r. ⌜ Counts r (now (out .exit)) ⌝ }
+    ensures { λ r. ⌜ take r (now (out .exit)) ≡ refused ⌝ }
 {
-    io::write_all(libc::STDOUT_FILENO, text);
+    text::put_word(out, 0, b"refused 23\n")
 }
 
-// Says 23, and nothing else.
-fn refuse() {
-    io::write_all(libc::STDOUT_FILENO, b"refused 23\n");
+// What came of a bundle: whether it is one, how many of its bytes came, and the totals of the entries that came whole.
+struct Month {
+    whole: bool,
+    came: u64,
+    totals: Totals,
+}
+
+// Puts what is to be printed of it at the beginning of the buffer: its first bytes, as many as are answered.
+fn tell(out: &mut [u8; ROOM], month: Month) -> usize
+    requires { ⌜ Gathered (month .totals) 64 ⌝ }
+    ensures { λ r. ⌜ Counts r (now (out .exit)) ⌝ }
+    ensures { λ r. ⌜ take r (now (out .exit)) ≡ told month ⌝ }
+{
+    if month.whole {
+        return report_whole(out, month.totals);
+    }
+    refusal_whole(out)
+}
+
+// Writes the text that is to be printed where these contents came, and so many bytes in all: what is handed over here is what the program prints.
+fn print(contents: &[u8], came: u64, text: &[u8])
+    requires { ⌜ Told (now contents) came (now text) ⌝ }
+{
+    io::write_all(libc::STDOUT_FILENO, text);
 }
 
 // How much of an entry of this size is read at once.
@@ -106,113 +128,126 @@ fn read_between(b: &mut [u8], from: usize, to: usize) -> usize
     io::read_full(libc::STDIN_FILENO, &mut b[from..to])
 }
 
-// Reads past so many bytes, and answers whether they came.
-fn read_past(job: &mut [u8], size: u64) -> bool
+// Reads past so many bytes, and answers how many came. Of none the buffer stays as it is.
+fn read_past(job: &mut [u8], size: u64) -> u64
     requires { ⌜ entry-room ≤ length (now job) ⌝ }
+    ensures { λ r. ⌜ r ≤ size ⌝ }
+    ensures { λ r. ⌜ (size ≡ 0 → now (job .exit) ≡ now (job .entry)) ⌝ }
 {
-    let mut left = size;
-    while 0 < left {
-        let n = portion(left);
-        if read_between(job, 0, n) < n {
-            return false;
+    let mut past: u64 = 0;
+    while past < size {
+        let n = portion(size - past);
+        let came = read_between(job, 0, n);
+        past += came as u64;
+        if came < n {
+            return past;
         }
-        left -= n as u64;
     }
-    true
+    past
 }
 
-// What comes of an entry: its class, or that the input ended in it.
+// What comes of an entry: its class, or how many of its bytes came before the input ended.
 enum Came {
     Whole(Class),
-    Cut,
+    Cut(u64),
 }
 
-// Reads an entry of this size: its first bytes are kept, as many as there is room for, and the others are read past.
+// Reads an entry of this size: its first bytes are kept, as many as there is room for. Of a longer one the others are read past, over them: they do not count.
 fn take_entry(job: &mut [u8], size: u64) -> Came
     requires { ⌜ entry-room ≤ length (now job) ⌝ }
-    ensures { λ r. ⌜ Came-of size r ⌝ }
+    ensures { λ r. ⌜ Came-of (now (job .exit)) size r ⌝ }
 {
     let n = portion(size);
-    if read_between(job, 0, n) < n {
-        return Came::Cut;
+    let first = read_between(job, 0, n);
+    if first < n {
+        return Came::Cut(first as u64);
     }
-    let class = totals::class::class_of(&job[..n], size);
-    if read_past(job, size - n as u64) {
-        return Came::Whole(class);
+    let more = size - n as u64;
+    let past = read_past(job, more);
+    if past < more {
+        return Came::Cut(n as u64 + past);
     }
-    Came::Cut
+    Came::Whole(totals::class::class_of(&job[..n], size))
 }
 
-// The totals of the entries, where all of them came.
-struct Month {
-    whole: bool,
-    totals: Totals,
+// Asks for one byte after the last entry, and answers how many came.
+fn read_more() -> u64
+    ensures { λ r. ⌜ r ≤ 1 ⌝ }
+{
+    let mut more = [0u8; 1];
+    read_between(&mut more, 0, 1) as u64
 }
 
-// Reads the n entries that the contents tell of, one after another.
+// Reads the n entries that the contents tell of, one after another, and looks whether the input ends there.
 fn take_entries(job: &mut [u8], contents: &[u8], n: usize) -> Month
     requires { ⌜ entry-room ≤ length (now job) ⌝ }
     requires { ⌜ contents-fit (now contents) ≡ true ⌝ }
     requires { ⌜ n ≡ entries (now contents) ⌝ }
-    ensures { λ r. ⌜ (r .whole ≡ true → Entries (now (contents .entry)) n (r .totals)) ⌝ }
+    ensures { λ r. ⌜ MonthOf (now (contents .entry)) r ⌝ }
 {
     let mut t = totals::tally::none();
+    let mut at = contents.len() as u64;
     let mut i: usize = 0;
     while i < n {
-        match take_entry(job, totals::bundle::size_of(contents, i)) {
-            Came::Cut => {
+        let size = totals::bundle::size_of(contents, i);
+        match take_entry(job, size) {
+            Came::Cut(k) => {
                 return Month {
                     whole: false,
+                    came: at + k,
                     totals: t,
                 };
             }
             Came::Whole(class) => {
                 t = totals::tally::add(t, class);
+                at += size;
                 i += 1;
             }
         }
     }
+    let more = read_more();
     Month {
-        whole: true,
+        whole: more == 0,
+        came: at + more,
         totals: t,
     }
 }
 
-// Reads the contents, and answers how many entries there are, or 0 where the contents are not good.
-fn read_contents(contents: &mut [u8]) -> usize
-    requires { ⌜ 514 ≤ length (now contents) ⌝ }
-    ensures { λ r. ⌜ GoodContents (now (contents .exit)) r ⌝ }
+// Of contents that do not fit no entry is read.
+fn take_month(job: &mut [u8], contents: &[u8]) -> Month
+    requires { ⌜ entry-room ≤ length (now job) ⌝ }
+    ensures { λ r. ⌜ MonthOf (now (contents .entry)) r ⌝ }
 {
-    let first = read_between(contents, 0, 2);
-    let n = totals::bundle::entries_counted(&contents[..first]);
-    let rest = read_between(contents, 2, 2 + 8 * n);
-    if totals::bundle::contents_fit(&contents[..2 + rest]) {
-        return rest / 8;
+    if totals::bundle::contents_fit(contents) {
+        return take_entries(job, contents, (contents.len() - 2) / 8);
     }
-    0
+    Month {
+        whole: false,
+        came: contents.len() as u64,
+        totals: totals::tally::none(),
+    }
 }
 
-// Whether there is more to read.
-fn has_more() -> bool {
-    let mut more = [0u8; 1];
-    io::read_full(libc::STDIN_FILENO, &mut more) == 1
+// Reads the contents, two bytes and what they count, and answers how many bytes came.
+fn read_contents(contents: &mut [u8]) -> usize
+    requires { ⌜ 514 ≤ length (now contents) ⌝ }
+    ensures { λ r. ⌜ r ≤ 514 ⌝ }
+{
+    let first = read_between(contents, 0, 2);
+    if first < 2 {
+        return first;
+    }
+    let n = totals::bundle::entries_counted(&contents[..first]);
+    2 + read_between(contents, 2, 2 + 8 * n)
 }
 
 fn main() {
     let mut contents = [0u8; CONTENTS_ROOM];
-    let n = read_contents(&mut contents);
-    if n == 0 {
-        return refuse();
-    }
+    let k = read_contents(&mut contents);
     let mut job = [0u8; ENTRY_ROOM];
-    let month = take_entries(&mut job, &contents[..2 + 8 * n], n);
-    if !month.whole {
-        return refuse();
-    }
-    if has_more() {
-        return refuse();
-    }
+    let month = take_month(&mut job, &contents[..k]);
+    let came = month.came;
     let mut out = [0u8; ROOM];
-    let k = report_whole(&mut out, month.totals);
-    print(&out[..k]);
+    let n = tell(&mut out, month);
+    print(&contents[..k], came, &out[..n]);
 }

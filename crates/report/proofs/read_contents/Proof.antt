@@ -1,14 +1,18 @@
--- `read_contents` meets its contract: what is answered was judged.
-use mathlib.Core.Path.{_∙_}
+-- `read_contents` meets its contract: no more is asked for than there is room.
 use mathlib.Core.Path.{sym}
 use lib.Seq.{length-take-le}
-use Rattle.report.proofs.Reading.{no-contents, contents-read}
 use borrow.Author.Needs.{needs}
 use Rattle.report.proofs.read_contents.Statement.{statement}
 use Rattle.report.proofs.read_contents.Tie as tie
 
 read-between-requires : tie.Need-read-between-requires
 read-between-requires c κs = search needs
+
+same-length : tie.Need-same-length
+same-length c = search needs
+
+returns : tie.Need-returns
+returns c = search needs
 
 slice-reshare-prefix-entries-counted : tie.Need-slice-reshare-prefix-entries-counted
 slice-reshare-prefix-entries-counted c = search needs
@@ -28,50 +32,28 @@ add-read-between c = search needs
 read-between-requires-2 : tie.Need-read-between-requires-2
 read-between-requires-2 c κs = search needs
 
-add-contents-fit : tie.Need-add-contents-fit
-add-contents-fit c = search needs
-
-slice-reshare-prefix-contents-fit : tie.Need-slice-reshare-prefix-contents-fit
-slice-reshare-prefix-contents-fit c = search needs
-
-slice-aggregate-contents-fit : tie.Need-slice-aggregate-contents-fit
-slice-aggregate-contents-fit c = sym (length-take-le _ _ (search needs))
-
-contents-fit-requires : tie.Need-contents-fit-requires
-contents-fit-requires c κs = search needs
-
-same-length : tie.Need-same-length
-same-length c = search needs
-
-returns : tie.Need-returns
-returns c =
-    let k = c .before in
-    let r = k .before .before .before .before in
-    contents-read (r .read-between2 .last .0) (r .before .before .entries-counted .result) (r .read-between2 .result)
-    (r .before .before .entries-counted .ensures .1) (r .read-between2 .ensures) (sym (k .contents-fit .ensures) ∙ c .if1 .taken) (search needs)
+add-result : tie.Need-add-result
+add-result c = search needs
 
 same-length-2 : tie.Need-same-length-2
 same-length-2 c = search needs
 
 returns-2 : tie.Need-returns-2
-returns-2 c = no-contents _
+returns-2 c = search needs
 
 pub read-contents-spec : {M : Type 1} → statement M
 read-contents-spec =
     tie.close
     (tie.spec
     read-between-requires
+    same-length
+    returns
     slice-reshare-prefix-entries-counted
     slice-aggregate-entries-counted
     entries-counted-requires
     mul-read-between
     add-read-between
     read-between-requires-2
-    add-contents-fit
-    slice-reshare-prefix-contents-fit
-    slice-aggregate-contents-fit
-    contents-fit-requires
-    same-length
-    returns
+    add-result
     same-length-2
     returns-2)

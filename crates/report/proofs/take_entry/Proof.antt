@@ -1,5 +1,7 @@
--- `take_entry` meets its contract: what came is the entry, as far as it is kept.
+-- `take_entry` meets its contract: what is in the buffer is the entry, as far as it is kept.
+use Prim.Native.Nat.{_+_}
 use mathlib.Core.Path.{sym, _∙_}
+use native.Mathlib.Omega.{arith}
 use lib.Seq.{length-take-le}
 use Rattle.report.specs.Read.{cut}
 use Rattle.report.proofs.Reading.{came-whole}
@@ -17,7 +19,22 @@ same-length : tie.Need-same-length
 same-length c = search needs
 
 returns : tie.Need-returns
-returns c = cut
+returns c = let n = c .before .before .before .before .before .portion .ensures in cut {k = c .before .before .before .read-between .result} (omega arith)
+
+sub-more : tie.Need-sub-more
+sub-more c = search needs
+
+read-past-requires : tie.Need-read-past-requires
+read-past-requires c κs = search needs
+
+add-t15 : tie.Need-add-t15
+add-t15 c = search needs
+
+same-length-2 : tie.Need-same-length-2
+same-length-2 c = search needs
+
+returns-2 : tie.Need-returns-2
+returns-2 c = let n = c .before .before .before .before .before .before .before .before .before .before .portion in cut {k = n .result + c .before .before .before .read-past .result} (omega (arith, n .ensures))
 
 slice-reshare-prefix-class-of : tie.Need-slice-reshare-prefix-class-of
 slice-reshare-prefix-class-of c = search needs
@@ -26,27 +43,13 @@ slice-aggregate-class-of : tie.Need-slice-aggregate-class-of
 slice-aggregate-class-of c = sym (length-take-le _ _ (search needs))
 
 class-of-requires : tie.Need-class-of-requires
-class-of-requires c κs = length-take-le _ _ (search needs) ∙ c .before .before .before .before .before .before .portion .ensures
-
-sub-read-past : tie.Need-sub-read-past
-sub-read-past c = search needs
-
-read-past-requires : tie.Need-read-past-requires
-read-past-requires c κs = search needs
-
-same-length-2 : tie.Need-same-length-2
-same-length-2 c = search needs
-
-returns-2 : tie.Need-returns-2
-returns-2 c =
-    let q = c .before .before .before .before .before in
-    came-whole (class-of-requires (q .before) (q .class-of .lifetimes)) (q .class-of .ensures)
+class-of-requires c κs = length-take-le _ _ (search needs) ∙ c .before .before .before .before .before .before .before .before .before .before .before .portion .ensures
 
 same-length-3 : tie.Need-same-length-3
 same-length-3 c = search needs
 
 returns-3 : tie.Need-returns-3
-returns-3 c = cut
+returns-3 c = came-whole (c .before .before .before .before .before .before .before .before .before .before .before .before .portion .ensures) (c .class-of .ensures)
 
 pub take-entry-spec : {M : Type 1} → statement M
 take-entry-spec =
@@ -56,12 +59,13 @@ take-entry-spec =
     read-between-requires
     same-length
     returns
+    sub-more
+    read-past-requires
+    add-t15
+    same-length-2
+    returns-2
     slice-reshare-prefix-class-of
     slice-aggregate-class-of
     class-of-requires
-    sub-read-past
-    read-past-requires
-    same-length-2
-    returns-2
     same-length-3
     returns-3)
