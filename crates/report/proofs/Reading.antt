@@ -2,7 +2,7 @@
 use Prim.Native.Nat.{ℕ, zero, suc, _+_, _-_, _≤_, _<_, min}
 use mathlib.Core.Bool.{Bool, true, false, false≢true}
 use mathlib.Core.List.{List, [], _∷_, _++_, append-nil}
-use mathlib.Core.Logic.{_⊎_, inl, inr}
+use mathlib.Core.Logic.{_↔_, _⊎_, inl, inr}
 use mathlib.Core.Path.{_≡_, refl, sym, ap, subst, _∙_}
 use native.Mathlib.Omega.{arith}
 use native.Mathlib.Numerals.{add-one}
@@ -19,7 +19,7 @@ use Rattle.totals.specs.declared.class.Class.{Class}
 use Rattle.totals.specs.declared.tally.Totals.{Totals}
 use Rattle.totals.proofs.Bundles.{Contents, contents-iff, counted-is, entries-front, bundle-iff, judged, together, bundle-made}
 use Rattle.totals.proofs.Reporting.{reported-none, reported-more}
-use Rattle.report.specs.Read.{Came-of, whole, cut, Entries, contents, Fits, MonthOf, told, Told, told-refused, told-reported}
+use Rattle.report.specs.Read.{Came-of, whole, cut, Entries, contents, Gives, Fits, MonthOf, told, Told, told-refused, told-reported}
 use Rattle.report.specs.Report.{report, refused, Tells, refuses, reports}
 use Rattle.report.specs.declared.Came.{Came}
 use Rattle.report.specs.declared.Month.{Month}
@@ -113,7 +113,8 @@ module _ {h : List ℕ} {n : ℕ} {t : Totals} (e : Entries h n t) where
               sized : (k : ℕ) → k < n + 1 → (k ≡ n) ⊎ (k ≡ n → ⊥) → length (getD (e .all ++ (b ∷ [])) k []) ≡ size h k
               sized k l (inl z) =
                   subst (λ (i : ℕ). length (getD (e .all ++ (b ∷ [])) i []) ≡ size h i) (sym z)
-                  (ap (λ (i : ℕ). length (getD (e .all ++ (b ∷ [])) i [])) (sym (e .count)) ∙ ap length (getD-append-seam (e .all) b [] []) ∙ long ∙ s)
+                  (ap (λ (i : ℕ). length (getD (e .all ++ (b ∷ [])) i [])) (sym (e .count)) ∙ ap length (getD-append-seam (e .all) b [] [])
+                  ∙ long ∙ s)
               sized k l (inr d) =
                   let below : k < n = omega arith in
                   ap length (List·getD-append (e .all) (b ∷ []) [] k (omega (arith, e .count))) ∙ e .sizes k below
@@ -186,25 +187,46 @@ month-told {h} {text} {m} o e = subst (Told h (m .came)) (sym e) (go (m .whole) 
 
 -- ---- what is printed is what `Tells` asks for
 
--- Of all bytes with these contents, and where they are good so many in number, "refused 23" is said where they do not fit.
-pub refused-right : (b : List ℕ) {came : ℕ} → (Fits (contents b) came → ⊥) → (contents-fit (contents b) ≡ true → length b ≡ came)
-    → Tells b refused
-refused-right b {came} bad long = refuses (λ g. bad (judged b .0 g .0, sym (long (judged b .0 g .0)) ∙ ends g))
-  where
-    k : ℕ
-    k = contents-size (entries-counted b)
+module _ (b : List ℕ) (came : ℕ) where
+  both : contents b ++ drop (contents-size (entries-counted b)) b ≡ b
+  both = take-append-drop (contents-size (entries-counted b)) b
 
-    both : contents b ++ drop k b ≡ b
-    both = take-append-drop k b
+  -- of its own contents
+  came-own : (contents-fit (contents b) ≡ true → came ≤ length b)
+      → (contents-fit (contents b) ≡ true → came ≤ due (contents b) (entries (contents b)) → length b ≡ came) → Bundle b ↔ Fits (contents b) came
+  came-own least ended = (there, back)
+    where
+      rest : List ℕ
+      rest = drop (contents-size (entries-counted b)) b
 
-    ends : Bundle b → length b ≡ due (contents b) (entries (contents b))
-    ends g =
-        let w = contents-iff (contents b) .0 (judged b .0 g .0) .whole in
-        ap length (sym both) ∙ bundle-iff (contents b) (drop k b) w .0 (subst Bundle (sym both) g) .1
+      there : Bundle b → Fits (contents b) came
+      there g =
+          let fit = judged b .0 g .0 in
+          let w = contents-iff (contents b) .0 fit .whole in
+          let ends : length b ≡ due (contents b) (entries (contents b)) =
+          ap length (sym both) ∙ bundle-iff (contents b) rest w .0 (subst Bundle (sym both) g) .1 in
+          (fit, sym (ended fit (omega (arith, least fit, ends))) ∙ ends)
 
--- The contents and the entries that came are a bundle, of so many bytes, and what is printed of it is the report of these totals.
+      back : Fits (contents b) came → Bundle b
+      back f =
+          let c = contents-iff (contents b) .0 (f .0) in
+          let ends : length b ≡ came = ended (f .0) (omega (arith, f .1)) in
+          subst Bundle both (bundle-iff (contents b) rest (c .whole) .1 (c, ap length both ∙ ends ∙ f .1))
+
+-- Of bytes of which these contents and so many bytes come: they are a bundle exactly where that fits.
+pub came-iff : {b h : List ℕ} {came : ℕ} → Gives b h came → Bundle b ↔ Fits h came
+came-iff {b} {h} {came} g =
+    subst
+    (λ (x : List ℕ). (contents-fit x ≡ true → came ≤ length b) → (contents-fit x ≡ true → came ≤ due x (entries x) → length b ≡ came)
+    → Bundle b ↔ Fits x came) (g .front) (came-own b came) (g .least) (g .ended)
+
+-- So where it does not fit, "refused 23" is what is to be printed of them.
+pub refused-right : {b h : List ℕ} {came : ℕ} → Gives b h came → (Fits h came → ⊥) → Tells b refused
+refused-right g bad = refuses (λ z. bad (came-iff g .0 z))
+
+-- Where it fits, and entries of these sizes have these totals, they are those of a bundle of which the same comes.
 pub reported-right : {h : List ℕ} {came : ℕ} {t : Totals} → Fits h came → Entries h (entries h) t
-    → (b : List ℕ) × (contents b ≡ h) × (length b ≡ came) × Tells b (report t)
+    → (b : List ℕ) × Gives b h came × Tells b (report t)
 reported-right {h} {came} {t} f e =
     let c = contents-iff h .0 (f .0) in
     let r = together (e .all) in
@@ -213,4 +235,5 @@ reported-right {h} {came} {t} f e =
     let same : entries (h ++ r) ≡ entries h = entries-front h r (c .whole) in
     let counted : entries (h ++ r) ≡ entries-counted (h ++ r) = counted-is (h ++ r) (made .counted) refl (made .few) in
     let front : contents (h ++ r) ≡ h = take-at h r (contents-size (entries-counted (h ++ r))) (omega (arith, c .whole, same, counted)) in
-    (h ++ r, front, bundle-iff h r (c .whole) .0 made .1 ∙ sym (f .1), reports made right)
+    let long : length (h ++ r) ≡ came = bundle-iff h r (c .whole) .0 made .1 ∙ sym (f .1) in
+    (h ++ r, record { front = front; least = λ z. omega (arith, long); ended = λ z l. long }, reports made right)

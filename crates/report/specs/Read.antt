@@ -1,5 +1,5 @@
 -- What came of reading: an entry, the entries, and the month; and what is printed of what came.
-use Prim.Native.Nat.{ℕ, _<_, min}
+use Prim.Native.Nat.{ℕ, _≤_, _<_, min}
 use mathlib.Core.Bool.{true, false, cond}
 use mathlib.Core.List.{List, []}
 use mathlib.Core.Path.{_≡_}
@@ -32,6 +32,12 @@ contents b = take (contents-size (entries-counted b)) b
 -- the contents h are good, and the last entry ends where the bytes that came do
 abbrev pub Fits : List ℕ → ℕ → Type 0
 Fits h came = (contents-fit h ≡ true) × (came ≡ due h (entries h))
+
+-- Of the bytes b these contents and so many bytes come: where the contents are good, the bytes end there, unless that is past the last entry.
+pub record Gives (b h : List ℕ) (came : ℕ) : Type 0 where
+  pub front : contents b ≡ h
+  pub least : contents-fit h ≡ true → came ≤ length b
+  pub ended : contents-fit h ≡ true → came ≤ due h (entries h) → length b ≡ came
 
 -- what came with the contents h: it is whole exactly where it fits, and then these are the totals of its entries
 pub record MonthOf (h : List ℕ) (m : Month) : Type 0 where

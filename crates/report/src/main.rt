@@ -152,7 +152,8 @@ enum Came {
     Cut(u64),
 }
 
-// Reads an entry of this size: its first bytes are kept, as many as there is room for. Of a longer one the others are read past, over them: they do not count.
+// Reads an entry of this size: its first bytes are kept, as many as there is room for. Of a longer one the others are read past, over these,
+// since its bytes do not count.
 fn take_entry(job: &mut [u8], size: u64) -> Came
     requires { ⌜ entry-room ≤ length (now job) ⌝ }
     ensures { λ r. ⌜ Came-of (now (job .exit)) size r ⌝ }

@@ -13,7 +13,9 @@ use Rattle.report.proofs.take_entries.Statement.{statement}
 use Rattle.report.proofs.take_entries.Tie as tie
 
 abbrev Inv-loop : tie.InvT-loop
-Inv-loop job₀ contents n t₀ at₀ i₀ job t at i = (i ≤ n) × ((entry-room ≤ length job) × ((length job ≡ length job₀) × (Entries contents i t × ((at ≡ due contents i) × (at ≤ 514 + 4294967296 * i)))))
+Inv-loop job₀ contents n t₀ at₀ i₀ job t at i =
+    (i ≤ n) × ((entry-room ≤ length job) × ((length job ≡ length job₀)
+    × (Entries contents i t × ((at ≡ due contents i) × (at ≤ 514 + 4294967296 * i)))))
 
 abbrev μ-loop : tie.MeasureT-loop
 μ-loop job₀ contents n t₀ at₀ i₀ job t at i = n - i
@@ -96,7 +98,8 @@ loop-again c =
         (
           search needs,
           (
-            entries-more (t .loop .inv .1 .1 .1 .0) (q .take-entry .ensures) (c .before .before .class .given .1) (z .0) (c .add .ensures) (search needs),
+            entries-more (t .loop .inv .1 .1 .1 .0) (q .take-entry .ensures) (c .before .before .class .given .1) (z .0) (c .add .ensures)
+                (search needs),
             (
               due-more (s .args .contents .now) (t .loop .i) (t .loop .at) (q .before .before .size-of .result) (s .pre .1 .0)
                   (omega (arith, s .pre .1 .1)) (t .loop .inv .1 .1 .1 .1 .0) (z .0),

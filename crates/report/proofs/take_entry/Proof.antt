@@ -19,7 +19,10 @@ same-length : tie.Need-same-length
 same-length c = search needs
 
 returns : tie.Need-returns
-returns c = let n = c .before .before .before .before .before .portion .ensures in cut {k = c .before .before .before .read-between .result} (omega arith)
+returns c =
+    let r = c .before .before .before in
+    let n = r .before .before .portion .ensures in
+    cut {k = r .read-between .result} (omega arith)
 
 sub-more : tie.Need-sub-more
 sub-more c = search needs
@@ -34,7 +37,10 @@ same-length-2 : tie.Need-same-length-2
 same-length-2 c = search needs
 
 returns-2 : tie.Need-returns-2
-returns-2 c = let n = c .before .before .before .before .before .before .before .before .before .before .portion in cut {k = n .result + c .before .before .before .read-past .result} (omega (arith, n .ensures))
+returns-2 c =
+    let p = c .before .before .before in
+    let n = p .before .before .before .before .before .before .before .portion in
+    cut {k = n .result + p .read-past .result} (omega (arith, n .ensures))
 
 slice-reshare-prefix-class-of : tie.Need-slice-reshare-prefix-class-of
 slice-reshare-prefix-class-of c = search needs
@@ -43,13 +49,17 @@ slice-aggregate-class-of : tie.Need-slice-aggregate-class-of
 slice-aggregate-class-of c = sym (length-take-le _ _ (search needs))
 
 class-of-requires : tie.Need-class-of-requires
-class-of-requires c κs = length-take-le _ _ (search needs) ∙ c .before .before .before .before .before .before .before .before .before .before .before .portion .ensures
+class-of-requires c κs =
+    let p = c .before .before .before .before in
+    length-take-le _ _ (search needs) ∙ p .before .before .before .before .before .before .before .portion .ensures
 
 same-length-3 : tie.Need-same-length-3
 same-length-3 c = search needs
 
 returns-3 : tie.Need-returns-3
-returns-3 c = came-whole (c .before .before .before .before .before .before .before .before .before .before .before .before .portion .ensures) (c .class-of .ensures)
+returns-3 c =
+    let p = c .before .before .before .before .before in
+    came-whole (p .before .before .before .before .before .before .before .portion .ensures) (c .class-of .ensures)
 
 pub take-entry-spec : {M : Type 1} → statement M
 take-entry-spec =
