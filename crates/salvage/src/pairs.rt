@@ -68,7 +68,8 @@ pub struct Turn {
 }
 
 // What a pass finds of record k, where `bad` is what it found of the one before. So a pass reads a record a fixed number of times at most, however
-// many its pair has: to tell whether it and whether the next one is the first of a pair, and once as the pair is judged, the pair's first record twice.
+// many its pair has: to tell whether it and whether the next one is the first of a pair, and once as its pair is judged; the first of a pair is then
+// read twice, and once more where the pair before it ends.
 pub fn look(job: &[u8], l: Layout, k: usize, bad: bool) -> Turn
     requires { ⌜ FitBut true (now job) l ⌝ }
     requires { ⌜ k < l .records ⌝ }
