@@ -1,0 +1,70 @@
+-- `near::is_near_name` meets its contract.
+use native.Mathlib.Omega.{arith}
+use borrow.Author.Needs.{needs}
+use Rattle.faults.proofs.near.is_near_name.Statement.{statement}
+use Rattle.faults.proofs.near.is_near_name.Tie as tie
+
+mul-start : tie.Need-mul-start
+mul-start c = search needs
+
+mul-start-2 : tie.Need-mul-start-2
+mul-start-2 c = search needs
+
+shared-slice-read-start : tie.Need-shared-slice-read-start
+shared-slice-read-start c = search needs
+
+mul-end : tie.Need-mul-end
+mul-end c = search needs
+
+add-end : tie.Need-add-end
+add-end c = search needs
+
+mul-end-2 : tie.Need-mul-end-2
+mul-end-2 c = search needs
+
+shared-slice-read-end : tie.Need-shared-slice-read-end
+shared-slice-read-end c = search needs
+
+sub-is-near : tie.Need-sub-is-near
+sub-is-near c =
+    let start = c .before .before .before .before .before in
+    let o = start .pre .0 .order _ (start .pre .1) in
+    let i = start .pre .0 .inside _ (start .pre .1) in
+    search needs
+
+part-is-near-start : tie.Need-part-is-near-start
+part-is-near-start c =
+    let start = c .before .before .before .before .before in
+    let o = start .pre .0 .order _ (start .pre .1) in
+    let i = start .pre .0 .inside _ (start .pre .1) in
+    search needs
+
+part-is-near-end : tie.Need-part-is-near-end
+part-is-near-end c =
+    let start = c .before .before .before .before .before in
+    let o = start .pre .0 .order _ (start .pre .1) in
+    let i = start .pre .0 .inside _ (start .pre .1) in
+    search needs
+
+is-near-requires : tie.Need-is-near-requires
+is-near-requires c κs = search needs
+
+returns : tie.Need-returns
+returns c = search needs
+
+pub is-near-name-spec : {M : Type 1} → statement M
+is-near-name-spec =
+    tie.close
+    (tie.spec
+    mul-start
+    mul-start-2
+    shared-slice-read-start
+    mul-end
+    add-end
+    mul-end-2
+    shared-slice-read-end
+    sub-is-near
+    part-is-near-start
+    part-is-near-end
+    is-near-requires
+    returns)

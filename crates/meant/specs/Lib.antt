@@ -1,0 +1,2 @@
+-- What the promises of meant are said with.
+pub mod Meant
