@@ -1,10 +1,10 @@
--- `job::put_records` meets its contract.
+-- `whole::put_records` meets its contract.
 use Prim.Native.Nat.{_-_, _≤_}
 use mathlib.Core.Path.{_≡_}
 use lib.ListN.{length}
 use borrow.Author.Needs.{needs}
-use Rattle.laid.proofs.job.put_records.Statement.{statement}
-use Rattle.laid.proofs.job.put_records.Tie as tie
+use Rattle.laid.proofs.whole.put_records.Statement.{statement}
+use Rattle.laid.proofs.whole.put_records.Tie as tie
 
 abbrev Inv-loop : tie.InvT-loop
 Inv-loop out₀ at tall moves k₀ i₀ out k i = (i ≤ 4194304) × (length out ≡ length out₀)

@@ -1,10 +1,10 @@
--- `job::write` meets its contract.
+-- `whole::write` meets its contract.
 use mathlib.Core.Path.{sym}
 use native.Mathlib.Omega.{arith}
 use lib.Seq.{length-take-le}
 use borrow.Author.Needs.{needs}
-use Rattle.laid.proofs.job.write.Statement.{statement}
-use Rattle.laid.proofs.job.write.Tie as tie
+use Rattle.laid.proofs.whole.write.Statement.{statement}
+use Rattle.laid.proofs.whole.write.Tie as tie
 
 slice-aggregate-first : tie.Need-slice-aggregate-first
 slice-aggregate-first c =

@@ -1,8 +1,8 @@
--- `job::count` meets its contract.
+-- `whole::count` meets its contract.
 use Prim.Native.Nat.{_-_, _≤_}
 use borrow.Author.Needs.{needs}
-use Rattle.laid.proofs.job.count.Statement.{statement}
-use Rattle.laid.proofs.job.count.Tie as tie
+use Rattle.laid.proofs.whole.count.Statement.{statement}
+use Rattle.laid.proofs.whole.count.Tie as tie
 
 abbrev Inv-loop : tie.InvT-loop
 Inv-loop moves n₀ i₀ n i = i ≤ 4194304
