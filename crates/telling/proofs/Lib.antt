@@ -1,0 +1,3 @@
+-- What the proofs of telling cite.
+pub mod Seeking
+pub mod Growing

@@ -1,0 +1,24 @@
+-- What spoils an action at a place: a listed outcome to which the plan gives a low value.
+use Prim.Native.Nat.{ℕ, _<_}
+use mathlib.Core.Bool.{Bool, true, false, _&&_}
+use mathlib.Core.List.{List}
+use mathlib.Core.Path.{_≡_}
+use lib.Dec.{leb}
+use Rattle.game.specs.Below.{some-below, last-below}
+use Rattle.rules.specs.Job.{Job, entered, is-from}
+use Rattle.rules.specs.Plan.{planned-entry}
+use Rattle.job.specs.declared.ask.Found.{Found}
+
+-- the value that the plan p gives to the place that record k enters from goal state q
+abbrev pub worth : Job → List ℕ → ℕ → ℕ → ℕ
+worth j p q k = planned-entry j p (entered j q (j .move k .outcome)) .value
+
+-- record k is an outcome of action a at state s, and from goal state q it enters a place to which the plan gives the value v at most
+abbrev pub spoils : Job → List ℕ → ℕ → ℕ → ℕ → ℕ → ℕ → Bool
+spoils j p s q a v k = is-from (j .move k) s a && leb (worth j p q k) v
+
+-- An answer names the last record that spoils the action, or says that none does.
+abbrev pub SpoiltBy : Job → List ℕ → ℕ → ℕ → ℕ → ℕ → Found → Type 0
+SpoiltBy j p s q a v (Found.At k) =
+    (k < j .records) × (spoils j p s q a v k ≡ true) × (k ≡ last-below (j .records) (spoils j p s q a v))
+SpoiltBy j p s q a v Found.Nothing = some-below (j .records) (spoils j p s q a v) ≡ false
