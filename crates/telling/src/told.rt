@@ -267,7 +267,7 @@ pub fn tell_head(
         (named (now (phrases .entry)) (now (goals .entry))))
         (now (out .exit)) r ⌝ }
 {
-    let e = rules::entry::read_entry(plan, i);
+    let own = rules::entry::read_entry(plan, i);
     put_head(
         out,
         text,
@@ -277,7 +277,7 @@ pub fn tell_head(
         goals,
         i / l.goals,
         i % l.goals,
-        e,
+        own,
     )
 }
 
