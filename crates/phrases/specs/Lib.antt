@@ -1,0 +1,2 @@
+-- What the promises of phrases are said with.
+pub mod Tables
