@@ -1,0 +1,135 @@
+-- The laws of turning a text into a job: from sets of moves and labels to what the lines say, and from tables to the names that are listed.
+use Prim.Native.Nat.{ℕ, zero, suc, _+_, _*_, _/_, _%_, _≤_, _<_}
+use mathlib.Core.Bool.{Bool, false, _||_, or-false}
+use mathlib.Core.List.{List, [], _∷_}
+use mathlib.Core.Path.{_≡_, refl, sym, ap, subst, _∙_}
+use native.Mathlib.Omega.{arith}
+use lib.ListN.{length, getD, replicate, length-replicate}
+use Rattle.sets.specs.Sets.{bit}
+use Rattle.sets.proofs.Bits.{bit-none}
+use Rattle.rules.specs.Bytes.{byte, said}
+use Rattle.job.specs.Layout.{Fit}
+use Rattle.job.specs.declared.layout.Layout.{Layout}
+use Rattle.job.proofs.Asking.{states-said, actions-said, propositions-said}
+use Rattle.text.specs.Lines.{bytes}
+use Rattle.lines.specs.Words.{lines}
+use Rattle.lines.specs.Names.{Lie, Holds, table, table-from, names}
+use Rattle.lines.specs.Numbers.{has, Gains}
+use Rattle.lines.specs.Says.{some-of, says-move, says-fact, number}
+use Rattle.lines.proofs.Naming.{table-length}
+use Rattle.meant.specs.Meant.{Meant}
+use Rattle.words.specs.Turned.{Job, Answers, a-job, faulty, Sound, Sounds, sound, blamed}
+use Rattle.words.specs.declared.turn.Turned.{Turned}
+
+-- ---- an empty set, and what was put to it
+
+zeros : (n k : ℕ) → _≡_ {A = ℕ} (getD (replicate n 0) k 0) 0
+zeros zero k = refl
+zeros (suc n) zero = refl
+zeros (suc n) (suc k) = zeros n k
+
+has-none : (n j : ℕ) → has (replicate n 0) j ≡ false
+has-none n j = rw (zeros n (j / 8)) (bit-none (j % 8))
+
+pub gains-all : (n : ℕ) {after : List ℕ} {f : ℕ → Bool} → Gains (replicate n 0) after f → (j : ℕ) → has after j ≡ f j
+gains-all n {after} {f} g j = g .members j ∙ (ap (λ (x : Bool). f j || x) (has-none n j) ∙ or-false (f j))
+
+pub gains-both : {before after : List ℕ} {f g : ℕ → Bool} → ((j : ℕ) → has before j ≡ f j) → Gains before after g
+    → (j : ℕ) → has after j ≡ (g j || f j)
+gains-both {g = g} h x j = x .members j ∙ ap (λ (y : Bool). g j || y) (h j)
+
+-- ---- what a job that is sound for these sets says
+
+module _ {states actions facts : List (List ℕ)} {t labels moves : List ℕ}
+    (em : (j : ℕ) → has moves j ≡ some-of (says-move states actions j) (lines t))
+    (el : (j : ℕ) → has labels j ≡ (some-of (says-fact states (bytes "busy" ∷ []) 7 j) (lines t) || some-of (says-fact states facts 0 j) (lines t))) where
+  job-said : {s a f : ℕ} {b : List ℕ} → length states ≡ s → length actions ≡ a → length facts ≡ f → Sound s a f labels moves b
+      → Job states actions facts t b
+  job-said {b = b} es ea ef x =
+      record {
+        keeps = x .meant .keeps;
+        all-states = x .of-states ∙ sym es;
+        all-actions = x .of-actions ∙ sym ea;
+        all-facts = x .of-facts ∙ sym ef;
+        moves = λ s a u hs ha hu. x .meant .recorded-said s a u hs ha hu ∙ em (number s a u);
+        labels = λ s i hs hi.
+            let ed : (8 * s + i) / 8 ≡ s = omega arith in
+            let er : (8 * s + i) % 8 ≡ i = omega arith in
+            ap (λ (y : ℕ). bit y i) (x .meant .labels-made s hs)
+            ∙ (ap (λ (k : ℕ). bit (getD labels k 0) i) (sym ed)
+            ∙ (ap (λ (k : ℕ). bit (getD labels ((8 * s + i) / 8) 0) k) (sym er) ∙ el (8 * s + i)));
+      }
+
+  turned : {s a f : ℕ} {out : List ℕ} {r : Turned} → length states ≡ s → length actions ≡ a → length facts ≡ f
+      → Sounds s a f labels moves out r → Answers states actions facts t out r
+  turned es ea ef (sound h x) = a-job h (job-said es ea ef x)
+  turned es ea ef blamed = faulty
+
+-- ---- a job that was read, and is the one that was meant
+
+pub sound-job : {b labels moves : List ℕ} {l : Layout} {s a f : ℕ} → Fit b l → (l .states ≡ s) × (l .actions ≡ a) × (l .propositions ≡ f)
+    → Meant b labels moves → Sound s a f labels moves b
+sound-job fit e m =
+    record {
+      meant = m;
+      of-states = sym (states-said fit) ∙ e .0;
+      of-actions = sym (actions-said fit) ∙ e .1;
+      of-facts = sym (propositions-said fit) ∙ e .2;
+    }
+
+-- ---- the word busy as a table of one name
+
+abbrev pub busy-text : List ℕ
+busy-text = 98 ∷ (117 ∷ (115 ∷ (121 ∷ [])))
+
+abbrev pub busy-spans : List ℕ
+busy-spans = 0 ∷ (4 ∷ [])
+
+pub busy-lies : Lie busy-text busy-spans 1
+busy-lies = record { room = omega arith; order = order; inside = inside }
+  where
+    order : (k : ℕ) → k < 1 → getD busy-spans (2 * k) 0 ≤ getD busy-spans (2 * k + 1) 0
+    order zero h = omega arith
+    order (suc k) h = absurd (omega arith)
+
+    inside : (k : ℕ) → k < 1 → getD busy-spans (2 * k + 1) 0 ≤ length busy-text
+    inside zero h = omega arith
+    inside (suc k) h = absurd (omega arith)
+
+busy-table : table busy-text busy-spans 1 ≡ bytes "busy" ∷ []
+unfolding table-from
+busy-table = refl
+
+-- ---- from what was gathered to what the lines say
+
+pub turned-named : (t states : List ℕ) (s : ℕ) (actions : List ℕ) (a : ℕ) (facts : List ℕ) (f : ℕ) {first labels moves out : List ℕ} {r : Turned}
+    → Gains (replicate 512 0) first (λ j. some-of (says-fact (table t states s) (table t facts f) 0 j) (lines t))
+    → Gains first labels (λ j. some-of (says-fact (table t states s) (table busy-text busy-spans 1) 7 j) (lines t))
+    → Gains (replicate 524288 0) moves (λ j. some-of (says-move (table t states s) (table t actions a) j) (lines t))
+    → Sounds s a f labels moves out r → Answers (table t states s) (table t actions a) (table t facts f) t out r
+turned-named t states s actions a facts f {first} {labels} {moves} g h m x =
+    turned (gains-all 524288 m) said-labels (table-length t states 0 s) (table-length t actions 0 a) (table-length t facts 0 f) x
+  where
+    said-labels : (j : ℕ) → has labels j
+        ≡ (some-of (says-fact (table t states s) (bytes "busy" ∷ []) 7 j) (lines t) || some-of (says-fact (table t states s) (table t facts f) 0 j) (lines t))
+    said-labels j =
+        gains-both (gains-all 512 g) h j
+        ∙ ap (λ (ns : List (List ℕ)). some-of (says-fact (table t states s) ns 7 j) (lines t) || some-of (says-fact (table t states s) (table t facts f) 0 j) (lines t)) busy-table
+
+-- ---- the names of a table are those that the text lists
+
+pub held : (room : ℕ) (key : List ℕ) {t after : List ℕ} {n : ℕ} → Holds t (replicate room 0) after n (names (length {A = ℕ} (replicate room 0) / 2) key t)
+    → table t after n ≡ names (room / 2) key t
+held room key {t} h = h .holds ∙ ap (λ (k : ℕ). names (k / 2) key t) (length-replicate {A = ℕ} room 0)
+
+pub few : (room k : ℕ) {t after : List ℕ} {n : ℕ} {xs : List (List ℕ)} → room ≡ 2 * k → Holds t (replicate room 0) after n xs → n ≤ k
+few room k {after = after} {n = n} e h =
+    let r : 2 * n ≤ length after = h .lie .room in
+    let q : length after ≡ room = h .as-long ∙ length-replicate {A = ℕ} room 0 in
+    omega arith
+
+pub answered : {t out : List ℕ} {r : Turned} {s s′ a a′ f f′ : List (List ℕ)} → s ≡ s′ → a ≡ a′ → f ≡ f′
+    → Answers s a f t out r → Answers s′ a′ f′ t out r
+answered {t} {out} {r} {s} {s′} {a} {a′} {f} {f′} es ea ef x =
+    subst (λ (y : List (List ℕ)). Answers y a′ f′ t out r) es
+    (subst (λ (y : List (List ℕ)). Answers s y f′ t out r) ea (subst (λ (y : List (List ℕ)). Answers s a y t out r) ef x))

@@ -1,0 +1,2 @@
+-- What the promises of words are said with.
+pub mod Turned

@@ -1,0 +1,2 @@
+// A job in words turned into bytes, or its faults told.
+pub mod turn;
