@@ -29,7 +29,7 @@ c_object = $(TOOLS)/bin/clang --target=x86_64-linux-gnu -nostdinc $(addprefix -i
 c_link = $(KIT)/bin/rattle-link --target x86_64-unknown-linux-gnu --toolchain $(TOOLS)
 c_program = $(c_object) $(1) -o $(2).o && { $(c_link) -o $(2) $(2).o build/libcabinet.a 2>build/link.log || { cat build/link.log; exit 1; }; }
 install_program = $(call install_script,$(1),$(2),install/run.in)
-ARM_NOTE = The archive is for x86-64, and so are the programs: cabinet-list, cabinet-report, cabinet-salvage, cabinet-check and cabinet-judge run them under the toolchain's emulator.
+ARM_NOTE = The archive is for x86-64, and so are the programs: cabinet-list, cabinet-report, cabinet-salvage, cabinet-show, cabinet-words, cabinet-check and cabinet-judge run them under the toolchain's emulator.
 endif
 
 # $(call install_script,PROGRAM,NAME,SCRIPT): the program goes to libexec, and a script that runs it to bin.
@@ -37,13 +37,13 @@ script_for = sed 's|@PROGRAM@|$(strip $(RUN) $(1))|' $(2) >$(3) && chmod 755 $(3
 install_script = mkdir -p $(DESTDIR)$(PREFIX)/libexec && cp target/bin/$(1) $(DESTDIR)$(PREFIX)/libexec/$(2) && \
   $(call script_for,$(PREFIX)/libexec/$(2),$(3),$(DESTDIR)$(PREFIX)/bin/$(2))
 
-.PHONY: test plan report lib examples install bench soak tests try-examples try-listing try-inputs try-slips try-checks try-trembling try-judge try-report try-salvage need-rt need-cc need-cargo need-x86
+.PHONY: test plan report lib examples install bench soak tests try-examples try-listing try-inputs try-slips try-checks try-trembling try-judge try-report try-salvage try-words try-show picture need-rt need-cc need-cargo need-x86
 
 # Everything, from nothing: the layout of the files, the calls from C, the programs, many inputs, and last the toolchain's gate.
 test: need-rt need-cc need-cargo
 	@rt fmt --check
 	@rm -f build/libcabinet.a
-	@$(MAKE) --no-print-directory try-examples try-inputs try-slips try-checks try-trembling try-judge try-salvage try-listing try-report
+	@$(MAKE) --no-print-directory try-examples try-inputs try-slips try-checks try-trembling try-judge try-salvage try-listing try-report try-words try-show
 	@rt ci
 
 # Proves what has changed, builds, and lists a job; with SLIPS=K, 0 to 3, its plans for up to K slips of the arm.
@@ -63,6 +63,17 @@ report: need-rt
 	@mkdir -p build
 	@rt check report >build/report.log 2>&1 || { cat build/report.log; exit 1; }
 	@$(RUN) target/bin/report <$(BUNDLE)
+
+# A picture of a job in words and of its plan, beside the text: make picture JOB=examples/plate.words
+picture: JOB = examples/plate.words
+picture: need-rt
+	@command -v dot >/dev/null 2>&1 || { echo "Missing: Graphviz, that is the command dot (on Debian the package graphviz)." >&2; exit 1; }
+	@mkdir -p build
+	@rt check show >build/show.log 2>&1 || { cat build/show.log; exit 1; }
+	@$(RUN) target/bin/show --dot $(JOB) >build/picture.dot
+	@[ -s build/picture.dot ] || exit 1
+	@dot -Tsvg build/picture.dot -o $(basename $(JOB)).svg
+	@echo "the picture is $(basename $(JOB)).svg"
 
 # The archive for C. It is proved and made again when a file or folder of crates/ is newer, or the toolchain.
 lib: build/libcabinet.a
@@ -137,6 +148,16 @@ try-report: tests
 	@sh tests/report/run $(CURDIR)/build/cargo/release/cabinet-tests $(RUN) $(CURDIR)/target/bin/report
 	@$(TESTS) reports $(RUN) target/bin/report
 
+try-words: need-rt
+	@mkdir -p build
+	@rt check from_words >build/words.log 2>&1 || { cat build/words.log; exit 1; }
+	@sh tests/words/run $(RUN) $(CURDIR)/target/bin/from_words
+
+try-show: need-rt
+	@mkdir -p build
+	@rt check show >build/show.log 2>&1 || { cat build/show.log; exit 1; }
+	@sh tests/show/run $(RUN) $(CURDIR)/target/bin/show
+
 # More inputs: make soak N=10000000
 soak: tests
 	@$(TESTS) soak $(N)
@@ -149,7 +170,7 @@ bench: need-x86 tests
 	@{ echo '# Speed'; echo; cat build/bench.md; } >docs/BENCH.md
 
 install: lib
-	@rt check listing report mend compare judge >build/plan.log 2>&1 || { cat build/plan.log; exit 1; }
+	@rt check listing report mend show from_words compare judge >build/plan.log 2>&1 || { cat build/plan.log; exit 1; }
 	@mkdir -p $(DESTDIR)$(PREFIX)/lib/pkgconfig $(DESTDIR)$(PREFIX)/include $(DESTDIR)$(PREFIX)/bin
 	@cp build/libcabinet.a $(DESTDIR)$(PREFIX)/lib/
 	@cp include/cabinet.h $(DESTDIR)$(PREFIX)/include/
@@ -157,10 +178,12 @@ install: lib
 	@$(call install_program,listing,cabinet-list)
 	@$(call install_program,report,cabinet-report)
 	@$(call install_program,mend,cabinet-salvage)
+	@$(call install_program,show,cabinet-show)
+	@$(call install_program,from_words,cabinet-words)
 	@$(call install_script,compare,cabinet-check,install/check.in)
 	@$(call install_script,judge,cabinet-judge,install/judge.in)
 	@[ -z "$(ARM_NOTE)" ] || echo "$(ARM_NOTE)"
-	@echo "installed the archive, the header, cabinet.pc, cabinet-list, cabinet-report, cabinet-salvage, cabinet-check and cabinet-judge under $(DESTDIR)$(PREFIX)"
+	@echo "installed the archive, the header, cabinet.pc, cabinet-list, cabinet-report, cabinet-salvage, cabinet-show, cabinet-words, cabinet-check and cabinet-judge under $(DESTDIR)$(PREFIX)"
 
 need-rt:
 	@command -v rt >/dev/null 2>&1 || { echo "Missing: the Rattle toolchain, that is the command rt on the PATH." >&2; exit 1; }

@@ -1,0 +1,34 @@
+-- `draw_moves` meets its contract.
+use Prim.Native.Nat.{_-_, _≤_}
+use borrow.Author.Needs.{needs}
+use Rattle.show.proofs.draw_moves.Statement.{statement}
+use Rattle.show.proofs.draw_moves.Tie as tie
+
+abbrev Inv-loop : tie.InvT-loop
+Inv-loop text actions job l plan i records k₀ k = 0 ≤ k
+
+abbrev μ-loop : tie.MeasureT-loop
+μ-loop text actions job l plan i records k₀ k = records - k
+
+loop-holds : tie.Need-loop-holds Inv-loop μ-loop
+loop-holds c = search needs
+
+draw-move-requires : tie.Need-draw-move-requires Inv-loop μ-loop
+draw-move-requires c κs = search needs
+
+add-k : tie.Need-add-k Inv-loop μ-loop
+add-k c = search needs
+
+loop-less : tie.Need-loop-less Inv-loop μ-loop
+loop-less c = search needs
+
+loop-again : tie.Need-loop-again Inv-loop μ-loop
+loop-again c = search needs
+
+returns : tie.Need-returns Inv-loop μ-loop
+returns c = search needs
+
+pub draw-moves-spec : {M : Type 1} → statement M
+draw-moves-spec =
+    tie.close
+    (tie.spec Inv-loop μ-loop loop-holds draw-move-requires add-k loop-less loop-again returns)
