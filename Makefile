@@ -37,26 +37,54 @@ script_for = sed 's|@PROGRAM@|$(strip $(RUN) $(1))|' $(2) >$(3) && chmod 755 $(3
 install_script = mkdir -p $(DESTDIR)$(PREFIX)/libexec && cp target/bin/$(1) $(DESTDIR)$(PREFIX)/libexec/$(2) && \
   $(call script_for,$(PREFIX)/libexec/$(2),$(3),$(DESTDIR)$(PREFIX)/bin/$(2))
 
-.PHONY: test plan report lib examples install bench soak tests try-examples try-listing try-inputs try-slips try-checks try-trembling try-judge try-report try-salvage try-words try-show picture need-rt need-cc need-cargo need-x86
+.PHONY: test plan turned show report lib examples install bench soak tests try-examples try-listing try-inputs try-slips try-checks try-trembling try-judge try-report try-salvage try-words try-show picture need-rt need-cc need-cargo need-x86
 
-# Everything, from nothing: the layout of the files, the calls from C, the programs, many inputs, and last the toolchain's gate.
+# Everything, from nothing: the layout of the files and the toolchain's gate; and then, over what that has proved and built, the calls from C, the
+# programs and many inputs. Proving comes first so that it is done once; the gate's last line is told again at the end.
 test: need-rt need-cc need-cargo
 	@rt fmt --check
-	@rm -f build/libcabinet.a
+	@mkdir -p build
+	@rm -f build/libcabinet.a build/proved
+	@{ rt ci && touch build/proved; } 2>&1 | tee build/ci.log
+	@[ -e build/proved ]
 	@$(MAKE) --no-print-directory try-examples try-inputs try-slips try-checks try-trembling try-judge try-salvage try-listing try-report try-words try-show
-	@rt ci
+	@tail -n 1 build/ci.log
 
-# Proves what has changed, builds, and lists a job; with SLIPS=K, 0 to 3, its plans for up to K slips of the arm.
+# Proves what has changed, builds, and lists a job, in bytes or, where its name ends in .words, in words; with SLIPS=K, 0 to 3, its plans for up to
+# K slips of the arm.
+IN_WORDS = $(filter %.words,$(JOB))
+PLANNED = $(if $(IN_WORDS),build/turned.job,$(JOB))
 ifeq ($(SLIPS),)
-plan: need-rt
+plan: need-rt $(if $(IN_WORDS),turned)
 	@mkdir -p build
 	@rt check listing >build/plan.log 2>&1 || { cat build/plan.log; exit 1; }
-	@$(RUN) target/bin/listing <$(JOB)
+	@$(RUN) target/bin/listing <$(PLANNED)
 else
-plan: lib need-cc
+plan: lib need-cc $(if $(IN_WORDS),turned)
 	@$(call c_program,examples/layers.c,build/layers)
-	@$(RUN) build/layers $(SLIPS) <$(JOB)
+	@$(RUN) build/layers $(SLIPS) <$(PLANNED)
 endif
+
+# The job in words as bytes; what is wrong with it is told, and then nothing is planned.
+turned: build/cabinet-words
+	@build/cabinet-words <$(JOB) >build/turned.job
+
+# Tells the plan of a job in words: make show JOB=examples/arch.words
+show: JOB = examples/plate.words
+show: build/cabinet-show
+	@build/cabinet-show $(JOB)
+
+# What `make install` puts to bin as cabinet-words and cabinet-show: the programs, by scripts that give a status.
+.PHONY: build/cabinet-words build/cabinet-show
+build/cabinet-words: need-rt
+	@mkdir -p build
+	@rt check from_words >build/words.log 2>&1 || { cat build/words.log; exit 1; }
+	@$(call script_for,$(CURDIR)/target/bin/from_words,install/words.in,build/cabinet-words)
+
+build/cabinet-show: need-rt
+	@mkdir -p build
+	@rt check show >build/show.log 2>&1 || { cat build/show.log; exit 1; }
+	@$(call script_for,$(CURDIR)/target/bin/show,install/show.in,build/cabinet-show)
 
 # Proves what has changed, builds, and reports on a bundle.
 report: need-rt
@@ -66,12 +94,9 @@ report: need-rt
 
 # A picture of a job in words and of its plan, beside the text: make picture JOB=examples/plate.words
 picture: JOB = examples/plate.words
-picture: need-rt
+picture: build/cabinet-show
 	@command -v dot >/dev/null 2>&1 || { echo "Missing: Graphviz, that is the command dot (on Debian the package graphviz)." >&2; exit 1; }
-	@mkdir -p build
-	@rt check show >build/show.log 2>&1 || { cat build/show.log; exit 1; }
-	@$(RUN) target/bin/show --dot $(JOB) >build/picture.dot
-	@[ -s build/picture.dot ] || exit 1
+	@build/cabinet-show --dot $(JOB) >build/picture.dot
 	@dot -Tsvg build/picture.dot -o $(basename $(JOB)).svg
 	@echo "the picture is $(basename $(JOB)).svg"
 
@@ -148,15 +173,12 @@ try-report: tests
 	@sh tests/report/run $(CURDIR)/build/cargo/release/cabinet-tests $(RUN) $(CURDIR)/target/bin/report
 	@$(TESTS) reports $(RUN) target/bin/report
 
-try-words: need-rt
-	@mkdir -p build
-	@rt check from_words >build/words.log 2>&1 || { cat build/words.log; exit 1; }
-	@sh tests/words/run $(RUN) $(CURDIR)/target/bin/from_words
+try-words: build/cabinet-words
+	@sh tests/words/run $(CURDIR)/build/cabinet-words
+	@$(MAKE) --no-print-directory plan JOB=examples/plate.words SLIPS= | diff crates/listing/stdout -
 
-try-show: need-rt
-	@mkdir -p build
-	@rt check show >build/show.log 2>&1 || { cat build/show.log; exit 1; }
-	@sh tests/show/run $(RUN) $(CURDIR)/target/bin/show
+try-show: build/cabinet-show
+	@sh tests/show/run $(CURDIR)/build/cabinet-show
 
 # More inputs: make soak N=10000000
 soak: tests
@@ -178,8 +200,8 @@ install: lib
 	@$(call install_program,listing,cabinet-list)
 	@$(call install_program,report,cabinet-report)
 	@$(call install_program,mend,cabinet-salvage)
-	@$(call install_program,show,cabinet-show)
-	@$(call install_program,from_words,cabinet-words)
+	@$(call install_script,show,cabinet-show,install/show.in)
+	@$(call install_script,from_words,cabinet-words,install/words.in)
 	@$(call install_script,compare,cabinet-check,install/check.in)
 	@$(call install_script,judge,cabinet-judge,install/judge.in)
 	@[ -z "$(ARM_NOTE)" ] || echo "$(ARM_NOTE)"
