@@ -5,10 +5,11 @@ use mathlib.Core.List.{List, [], _∷_, _++_}
 use mathlib.Core.Path.{_≡_, refl, sym, ap, subst, _∙_}
 use native.Mathlib.Omega.{arith}
 use borrow.Author.Tests.{eq-eqb, ne-eqb, le-leb}
-use lib.ListN.{length, drop}
+use lib.ListN.{length, take, drop}
+use lib.Seq.{take-append-seam}
 use Rattle.text.specs.PutText.{PutText}
 use Rattle.text.specs.Lines.{bytes}
-use Rattle.text.proofs.Putting.{put-none, put-then}
+use Rattle.text.proofs.Putting.{put-none, put-then, put-whole}
 use Rattle.lines.specs.Words.{words, lines, lines-from, part, same-word, NextWord, NextLine}
 use Rattle.lines.specs.Names.{colon, after-key, index-of, table}
 use Rattle.lines.specs.Says.{arrow, is}
@@ -64,6 +65,13 @@ put-same {l} {m} {at = at} {p} e x = subst (λ (y : List ℕ). PutText l at y m 
 
 pub put-nothing : (l : List ℕ) (at : ℕ) {w : List ℕ} → w ≡ [] → PutText l at w l at
 put-nothing l at e = put-same e (put-none l at)
+
+-- Where the answer is less than the line has room for, the whole text was put.
+pub put-short : {l w m : List ℕ} {r : ℕ} → PutText l 0 w m r → r < length l → (take r m ≡ w) × (r ≡ length w)
+put-short {l} {w} {m} {r} x h =
+    let e : r ≡ length w = omega (arith, x .position) in
+    let whole = put-whole (omega arith) x in
+    (rw (whole .0, e) (take-append-seam w (drop (0 + length w) l)), e)
 
 -- ---- what follows the first fact of a clause
 

@@ -12,7 +12,7 @@ use Rattle.lines.specs.Says.{arrow, is}
 
 -- ---- the start, and the first goal state
 
--- the number of the first of these words, which name something, or another number where there is no word
+-- the number of the name that the first of these words is, or another number where there is no word
 unfoldable pub named-first : List (List ℕ) → List (List ℕ) → ℕ → ℕ
 named-first names [] other = other
 named-first names (w ∷ ws) other = index-of names w
@@ -51,7 +51,7 @@ unfoldable pub before-said : List (List ℕ) → ℕ → List (List ℕ) → Lis
 before-said facts i [] = []
 before-said facts i (c ∷ ws) = three 3 i (index-of facts c)
 
--- a line of two words or more, which says no more than a clause
+-- what a clause with these first two words says, and these after them
 unfoldable pub clause-of : List (List ℕ) → List ℕ → List ℕ → List (List ℕ) → List ℕ
 clause-of facts a b ws =
     cond (same-word a (bytes "eventually")) (three 0 (index-of facts b) (index-of facts b))
