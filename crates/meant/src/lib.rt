@@ -1,4 +1,6 @@
 // The job that was written, read again: whether its records are the moves that were said, and its labels those that were made.
+pub mod goal;
+
 ghost use mathlib.Core.Path.{_≡_};
 ghost use mathlib.Core.Bool.{true};
 ghost use Prim.Native.Nat.{ℕ, _/_, _%_, _<_, _≤_};
