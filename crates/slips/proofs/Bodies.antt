@@ -7,11 +7,10 @@ use mathlib.Core.Path.{_≡_, refl, sym, _∙_, ap}
 use native.Mathlib.Nat.{mod-lt, div-lt-iff-lt-mul, mul-le-mul}
 use native.Mathlib.Omega.{arith}
 use borrow.Author.Tests.{lt-ltb, le-ltb, lt-leb, le-leb, leb-true}
-use lib.Arith.{digits-lt, digits-div, digits-mod}
 use lib.Dec.{leb, ltb, eqb}
-use lib.ListN.{length, getD, take, drop, set, length-set, length-drop, take-append-drop}
+use lib.ListN.{length, getD, take, drop, set, length-set, take-append-drop}
 use lib.Pow.{pow-pos, pow-mono}
-use lib.Seq.{length-take-le, getD-take, getD-drop, getD-set-same, getD-set-other, ext-getD}
+use lib.Seq.{getD-set-same, getD-set-other}
 use Rattle.sets.specs.Sets.{one}
 use Rattle.game.specs.Below.{every-below}
 use Rattle.sets.proofs.Bits.{below-or}
@@ -22,6 +21,7 @@ use Rattle.slips.specs.Writing.{Body, Writing, refused, written}
 use Rattle.slips.specs.Filling.{StateLeft, ByteLeft, BodyLeft, body-byte, Filled}
 use Rattle.slips.proofs.Accept.{steps-below}
 use Rattle.slips.proofs.Stepping.{states-from, power-few}
+use Rattle.slips.proofs.Tables.{rest-kept, filled-long, row-filled, mark-filled}
 
 -- ---- one byte
 
@@ -116,34 +116,16 @@ module _ (cs : List Clause) (p : ℕ) (before after : List ℕ) (h : body-size c
   abbrev size : ℕ
   size = body-size cs p
 
-  abbrev rows : ℕ
-  rows = states cs * 2 ^ p
-
   pub tail-kept : take size after ++ drop size before ≡ after
-  tail-kept = ap (λ (l : List ℕ). take size after ++ l) (sym same) ∙ take-append-drop size after
-    where
-      same : drop size after ≡ drop size before
-      same =
-          ext-getD 0 (drop size after) (drop size before) (length-drop size after ∙ rw (x .as-long) (sym (length-drop size before)))
-          (λ i l. getD-drop size after i 0 ∙ x .bytes (size + i)
-          ∙ rw (le-ltb (size + i) size (omega arith)) (sym (getD-drop size before i 0)))
-
-  byte-is : (y : ℕ) → y < size → getD (take size after) y 0 ≡ body-byte cs p y
-  byte-is y l = getD-take size after y 0 l ∙ x .bytes y ∙ rw (lt-ltb y size l)
+  tail-kept = ap (λ (l : List ℕ). take size after ++ l) (sym (rest-kept x)) ∙ take-append-drop size after
 
   pub body-filled : Body cs p (take size after)
-  body-filled = record { long = length-take-le size after (omega (arith, x .as-long)); rows = in-rows; marks = in-marks }
-    where
-      in-rows : (q l : ℕ) → q < states cs → l < 2 ^ p → getD (take size after) (q * 2 ^ p + l) 0 ≡ steps cs q l
-      in-rows q l i k =
-          let b : q * 2 ^ p + l < rows = digits-lt i k in
-          byte-is (q * 2 ^ p + l) (omega arith)
-          ∙ rw (lt-ltb (q * 2 ^ p + l) rows b, digits-div q k, digits-mod q k)
-
-      in-marks : (q : ℕ) → q < states cs → getD (take size after) (rows + q) 0 ≡ one (finals cs q)
-      in-marks q i =
-          let e : rows + q - rows ≡ q = omega arith in
-          byte-is (rows + q) (omega arith) ∙ rw (le-ltb (rows + q) rows (omega arith), e)
+  body-filled =
+      record {
+        long = filled-long x h;
+        rows = row-filled (states cs) p (steps cs) (finals cs) x;
+        marks = mark-filled (states cs) p (steps cs) (finals cs) x;
+      }
 
 -- ---- each way through the call
 

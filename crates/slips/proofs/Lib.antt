@@ -4,6 +4,7 @@ pub mod One
 pub mod Accept
 pub mod Unique
 pub mod Stepping
+pub mod Tables
 pub mod Bodies
 pub mod Existing
 pub mod Examples
