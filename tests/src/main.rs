@@ -15,6 +15,7 @@ mod report;
 mod salvages;
 mod slips;
 mod trembling;
+mod words;
 
 use cases::Cases;
 use check::Desk;
@@ -44,7 +45,10 @@ cabinet-tests salvage              the job that the oracle salvages from standar
 cabinet-tests mended WORDS         the program that salvages, started by these words, beside the oracle
 cabinet-tests listings WORDS       the listing program, started by these words, beside the oracle's listing
 cabinet-tests report               the oracle's report of the bundle on standard input
-cabinet-tests reports WORDS        the report program, started by these words, beside the oracle's report";
+cabinet-tests reports WORDS        the report program, started by these words, beside the oracle's report
+cabinet-tests turn                 the job of the text in words on standard input, or on standard error its faults
+cabinet-tests words [SEED] WORDS   the program that turns such texts, started by these words, beside the oracle's reader
+cabinet-tests text NUMBER [SEED]   one text of that run";
 
 /// Tries the inputs with these numbers, prints the counts and says whether everything has come up.
 fn tried(inputs: &Inputs, seed: u64, numbers: std::ops::Range<u64>) -> bool {
@@ -164,7 +168,7 @@ fn command(words: &[String]) -> Option<()> {
                 std::process::exit(1);
             }
         }
-        _ => return None,
+        _ => return words::command(words, SEED),
     }
     Some(())
 }

@@ -12,7 +12,7 @@ use crate::random::Random;
 use crate::report::Input;
 pub use chain::Doubt;
 use chain::End;
-use parts::{Form, Parts};
+pub use parts::{Form, Parts};
 pub use valid::Size;
 
 const TINY: Size = Size { form: Form::Old, states: 3, actions: 3, propositions: 2, goals: 3, moves: 7 };
