@@ -173,8 +173,10 @@ try-report: tests
 	@sh tests/report/run $(CURDIR)/build/cargo/release/cabinet-tests $(RUN) $(CURDIR)/target/bin/report
 	@$(TESTS) reports $(RUN) target/bin/report
 
-try-words: build/cabinet-words
+try-words: tests build/cabinet-words
 	@sh tests/words/run $(CURDIR)/build/cabinet-words
+	@sh tests/words/run $(CURDIR)/build/cargo/release/cabinet-tests turn
+	@$(TESTS) words $(RUN) target/bin/from_words
 	@$(MAKE) --no-print-directory plan JOB=examples/plate.words SLIPS= | diff crates/listing/stdout -
 
 try-show: build/cabinet-show
