@@ -133,7 +133,7 @@ fn is_before(m: Move, s: usize, a: usize, t: usize) -> bool
 }
 
 // How many records come before this state, action and outcome. Records ascend, so each look halves the range in doubt.
-fn count_before(job: &[u8], l: Layout, s: usize, a: usize, t: usize) -> usize
+pub fn count_before(job: &[u8], l: Layout, s: usize, a: usize, t: usize) -> usize
     requires { ⌜ Fit (now job) l ⌝ }
     ensures { λ r. ⌜ Parted (said (now (job .entry))) (triple s a t) r r ⌝ }
 {

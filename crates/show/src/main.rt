@@ -24,7 +24,7 @@ fn draw_move(text: &[u8], actions: &[usize], job: &[u8], l: Layout, plan: &[u8],
     requires { ⌜ k < l .records ⌝ }
 {
     let mut out = [0u8; 512];
-    let n = telling::graph::put_move(&mut out, text, actions, job, l, plan, i, k);
+    let n = drawing::graph::put_move(&mut out, text, actions, job, l, plan, i, k);
     if 0 < n {
         write_front(&out, n);
     }
@@ -34,9 +34,10 @@ fn draw_move(text: &[u8], actions: &[usize], job: &[u8], l: Layout, plan: &[u8],
 fn draw_moves(text: &[u8], actions: &[usize], job: &[u8], l: Layout, plan: &[u8], i: usize)
     requires { ⌜ Fit (now job) l ⌝ }
 {
-    let records = l.records;
-    let mut k: usize = 0;
-    while k < records {
+    let r = telling::range::of_state(job, l, i / l.goals);
+    let to = r.to;
+    let mut k = r.from;
+    while k < to {
         draw_move(text, actions, job, l, plan, i, k);
         k += 1;
     }
@@ -69,7 +70,7 @@ fn draw_place(
     requires { ⌜ 4 * places (said (now job)) ≤ length (now plan) ⌝ }
 {
     let mut out = [0u8; 1024];
-    let n = telling::graph::put_node(&mut out, text, states, phrases, goals, l, plan, i);
+    let n = drawing::graph::put_node(&mut out, text, states, phrases, goals, l, plan, i);
     write_front(&out, n);
     draw_moves(text, actions, job, l, plan, i);
 }
@@ -93,9 +94,7 @@ fn tell_place(
         return;
     }
     let mut out = [0u8; OUT_ROOM];
-    let n = telling::told::tell_head(&mut out, text, states, actions, phrases, goals, l, plan, i);
-    write_front(&out, n);
-    let n = telling::told::tell_why(
+    let n = telling::told::tell_place(
         &mut out,
         text,
         states,
@@ -179,7 +178,7 @@ fn show_places(
 fn begin(plan: &[u8], start: usize, dot: bool) {
     let mut out = [0u8; 512];
     if dot {
-        let n = telling::graph::put_begin(&mut out, start);
+        let n = drawing::graph::put_begin(&mut out, start);
         write_front(&out, n);
         return;
     }
@@ -211,9 +210,9 @@ fn show_plan(
     requires { ⌜ Fit (now job) l ⌝ }
     requires { ⌜ 4 * places (said (now job)) ≤ length (now plan) ⌝ }
 {
-    let mut queue = [0u16; telling::reach::ROOM];
-    let mut marks = [0u8; telling::reach::ROOM];
-    let n = telling::reach::reach(&mut queue, &mut marks, job, l, plan, dot);
+    let mut queue = [0u16; drawing::reach::ROOM];
+    let mut marks = [0u8; drawing::reach::ROOM];
+    let n = drawing::reach::reach(&mut queue, &mut marks, job, l, plan, dot);
     begin(plan, nth(&queue, 0), dot);
     show_places(
         text,
@@ -246,7 +245,7 @@ fn show_named(text: &[u8], job: &[u8], l: Layout, plan: &[u8], dot: bool)
         return;
     }
     let mut phrases = [0u8; 8192];
-    telling::clauses::list(&mut phrases, &mut goals, text);
+    seen::list(&mut phrases, &mut goals, text);
     show_plan(text, &states, &actions, &phrases, &goals, job, l, plan, dot);
 }
 

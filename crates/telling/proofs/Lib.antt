@@ -1,3 +1,3 @@
 -- What the proofs of telling cite.
+pub mod Ranging
 pub mod Seeking
-pub mod Growing

@@ -1,16 +1,18 @@
--- Looking for the last number below n that passes a test, from above.
+-- Looking for the last number below n that passes a test, from above, and the record that is told of an action.
 use Prim.Native.Nat.{ℕ, zero, suc, _-_, _≤_, _<_}
-use mathlib.Core.Bool.{Bool, true, false, _||_}
+use mathlib.Core.Bool.{Bool, true, false, or-false}
 use mathlib.Core.List.{List}
-use mathlib.Core.Path.{_≡_, refl, sym, _∙_}
+use mathlib.Core.Logic.{_⊎_, inl, inr, Iff·rfl}
+use mathlib.Core.Path.{_≡_, refl, sym, ap, _∙_}
+use native.Mathlib.Nat.{eq-or-lt-of-le}
 use native.Mathlib.Omega.{arith}
 use Rattle.game.specs.Below.{some-below, last-below}
-use Rattle.rules.specs.Bytes.{said}
+use Rattle.game.proofs.Search.{clash, if-not-true}
+use Rattle.game.proofs.Tests.{and-iff, some-stops, some-met, last-met}
+use Rattle.rules.specs.Job.{Job, is-from}
 use Rattle.job.specs.declared.ask.Found.{Found}
-use Rattle.job.specs.declared.layout.Layout.{Layout}
-use Rattle.job.specs.Layout.{Fit}
-use Rattle.job.proofs.Asking.{records-said}
-use Rattle.telling.specs.Spoilt.{SpoiltBy}
+use Rattle.telling.specs.Ranges.{Together}
+use Rattle.telling.specs.Spoilt.{spoils, is-spoilt, last-spoiler, SpoiltBy, worst}
 
 -- of the numbers below n none from k on passes
 pub record Sought (n : ℕ) (f : ℕ → Bool) (k : ℕ) : Type 0 where
@@ -21,14 +23,6 @@ pub record Sought (n : ℕ) (f : ℕ → Bool) (k : ℕ) : Type 0 where
 pub sought-begin : (n : ℕ) (f : ℕ → Bool) → Sought n f n
 sought-begin n f = record { few = omega arith; some = refl; last = refl }
 
-or-false : (b : Bool) → (b || false) ≡ b
-or-false true = refl
-or-false false = refl
-
-or-true : (b : Bool) → (b || true) ≡ true
-or-true true = refl
-or-true false = refl
-
 pub sought-down : {n : ℕ} {f : ℕ → Bool} (k : ℕ) → Sought n f (suc k) → f k ≡ false → Sought n f k
 sought-down {n} {f} k s e =
     record {
@@ -37,13 +31,56 @@ sought-down {n} {f} k s e =
       last = s .last ∙ rw e;
     }
 
+-- none from m on passes
+pub sought-from : (n : ℕ) (f : ℕ → Bool) (m : ℕ) → m ≤ n → ((k : ℕ) → m ≤ k → k < n → f k ≡ false) → Sought n f m
+sought-from zero f m h none = let z : m ≡ 0 = omega arith in rw z (sought-begin 0 f)
+sought-from (suc n) f m h none = go (eq-or-lt-of-le h) (λ g. sought-from n f m g (λ k a b. none k a (omega arith)))
+  where
+    go : (m ≡ suc n) ⊎ (m < suc n) → (m ≤ n → Sought n f m) → Sought (suc n) f m
+    go (inl e) rest = rw e (sought-begin (suc n) f)
+    go (inr l) rest =
+        let s = rest (omega arith) in
+        let d = sought-down n (sought-begin (suc n) f) (none n (omega arith) (omega arith)) in
+        record { few = h; some = d .some ∙ s .some; last = d .last ∙ s .last }
+
 pub sought-found : {n : ℕ} {f : ℕ → Bool} (k : ℕ) → Sought n f (suc k) → f k ≡ true → (k < n) × (f k ≡ true) × (k ≡ last-below n f)
 sought-found {n} {f} k s e = (omega (arith, s .few), e, sym (s .last ∙ rw e))
 
-pub sought-none : {n : ℕ} {f : ℕ → Bool} {k : ℕ} → Sought n f k → k ≤ 0 → some-below n f ≡ false
-sought-none {n} {f} {k} s h = let z : k ≡ 0 = omega (arith, h) in s .some ∙ rw z
+pub sought-none : {n : ℕ} {f : ℕ → Bool} {k : ℕ} → Sought n f k → ((i : ℕ) → i < k → f i ≡ false) → some-below n f ≡ false
+sought-none {n} {f} {k} s none =
+    s .some ∙ if-not-true (some-below k f) (λ e. let (i, h, t) = some-met f k e in clash t (none i h))
 
--- a record that was found is one of the job's
-pub spoilt-below : {b : List ℕ} {l : Layout} {r : Found} (p : List ℕ) (s q a v k : ℕ) → Fit b l → r ≡ Found.At k
-    → SpoiltBy (said b) p s q a v r → k < l .records
-spoilt-below p s q a v k f e h = let (i, y, z) = rw e at h in rw (records-said f) i
+-- ---- records that lie together
+
+-- a record that does not lie with those of the state and action does not spoil it
+pub not-among : (j : Job) (p : List ℕ) (s q a v : ℕ) {low high : ℕ} → Together j (λ m. is-from m s a) low high
+    → (k : ℕ) → k < j .records → (low ≤ k → k < high → ⊥) → spoils j p s q a v k ≡ false
+not-among j p s q a v t k h out =
+    if-not-true (spoils j p s q a v k)
+    (λ e.
+    let (low, high) = t .all k h (and-iff Iff·rfl Iff·rfl .0 e .0) in
+    out low high)
+
+-- ---- the record that is told of an action
+
+module _ (j : Job) (p : List ℕ) (s q a : ℕ) where
+  -- the last that spoils it by losing, and where none does, what is found by at most pending
+  pub worst-lost : (k : ℕ) → SpoiltBy j p s q a 0 (Found.At k) → Found.At k ≡ worst j p s q a
+  worst-lost k (h, e, last) = rw (some-stops (spoils j p s q a 0) (j .records) k h e) (ap Found.At last)
+
+  pub worst-else : (r : Found) → SpoiltBy j p s q a 0 Found.Nothing → SpoiltBy j p s q a 1 r → r ≡ worst j p s q a
+  worst-else (Found.At k) none (h, e, last) = rw (none, some-stops (spoils j p s q a 1) (j .records) k h e) (ap Found.At last)
+  worst-else Found.Nothing none more = rw (none, more)
+
+  -- it is one of the job's
+  pub worst-below : (k : ℕ) → Found.At k ≡ worst j p s q a → k < j .records
+  worst-below k e = go (is-spoilt j p s q a 0) refl (is-spoilt j p s q a 1) refl
+    where
+      go : (x : Bool) → is-spoilt j p s q a 0 ≡ x → (y : Bool) → is-spoilt j p s q a 1 ≡ y → k < j .records
+      go true x y z =
+          let same : k ≡ last-spoiler j p s q a 0 = let h = rw x at e in cc in
+          rw same (last-met (spoils j p s q a 0) (j .records) x .0)
+      go false x true z =
+          let same : k ≡ last-spoiler j p s q a 1 = let h = rw (x, z) at e in cc in
+          rw same (last-met (spoils j p s q a 1) (j .records) z .0)
+      go false x false z = let h = rw (x, z) at e in let n : _≡_ {A = ℕ} 0 1 = cc in absurd (omega arith)

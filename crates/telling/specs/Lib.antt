@@ -1,5 +1,5 @@
 -- What the promises of telling are said with.
 pub mod Lines
-pub mod Kept
+pub mod Ranges
 pub mod Spoilt
 pub mod Told

@@ -49,3 +49,7 @@ spoilt-text v = cond (eqb v 0) (bytes ", where all is lost\n") (bytes ", which i
 -- The line of an action that a place spoils which has this value.
 abbrev pub spoiler-line : List ℕ → List ℕ → ℕ → List ℕ
 spoiler-line action place v = (bytes "    ") ++ (action ++ ((bytes " is not sure: it may lead to ") ++ (place ++ spoilt-text v)))
+
+-- the line of a place from which nothing leads to the goal
+abbrev pub lost-line : List ℕ
+lost-line = bytes "    nothing that is open here can lead to the goal\n"

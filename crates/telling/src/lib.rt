@@ -1,7 +1,5 @@
-// A plan told with names: what the plan says at a place and why it is not winning, in words and as a graph for Graphviz.
-pub mod clauses;
-pub mod graph;
+// A plan told with names: what the plan says at a place, and why it is not winning.
 pub mod names;
-pub mod reach;
+pub mod range;
 pub mod spoil;
 pub mod told;

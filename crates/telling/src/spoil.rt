@@ -6,7 +6,8 @@ ghost use Rattle.rules.specs.Bytes.{said};
 ghost use Rattle.rules.specs.Job.{entered, places, is-from};
 ghost use Rattle.rules.specs.Plan.{planned-entry};
 ghost use Rattle.job.specs.Layout.{Fit};
-ghost use Rattle.telling.specs.Spoilt.{spoils, SpoiltBy};
+ghost use Rattle.telling.specs.Spoilt.{spoils, SpoiltBy, worst};
+use crate::range::of_action;
 use game::entry::Entry;
 use job::ask::Found;
 use job::layout::Layout;
@@ -58,18 +59,33 @@ fn is_spoiling(
 }
 
 // The last record that spoils action a at the place of state s and goal state q, by a value of v at most.
-pub fn spoiler(job: &[u8], l: Layout, plan: &[u8], s: usize, q: usize, a: usize, v: u8) -> Found
+fn spoiler(job: &[u8], l: Layout, plan: &[u8], s: usize, q: usize, a: usize, v: u8) -> Found
     requires { ⌜ Fit (now job) l ⌝ }
     requires { ⌜ 4 * places (said (now job)) ≤ length (now plan) ⌝ }
     requires { ⌜ q < l .goals ⌝ }
     ensures { λ r. ⌜ SpoiltBy (said (now (job .entry))) (now (plan .entry)) s q a v r ⌝ }
 {
-    let mut k = l.records;
-    while 0 < k {
+    let r = of_action(job, l, s, a);
+    let from = r.from;
+    let mut k = r.to;
+    while from < k {
         k -= 1;
         if is_spoiling(job, l, plan, s, q, a, v, k) {
             return Found::At(k);
         }
     }
     Found::Nothing
+}
+
+// The record that is told of action a: the last that spoils it by losing, or else the last that does by at most pending.
+pub fn worst(job: &[u8], l: Layout, plan: &[u8], s: usize, q: usize, a: usize) -> Found
+    requires { ⌜ Fit (now job) l ⌝ }
+    requires { ⌜ 4 * places (said (now job)) ≤ length (now plan) ⌝ }
+    requires { ⌜ q < l .goals ⌝ }
+    ensures { λ r. ⌜ r ≡ worst (said (now (job .entry))) (now (plan .entry)) s q a ⌝ }
+{
+    match spoiler(job, l, plan, s, q, a, 0) {
+        Found::At(k) => Found::At(k),
+        Found::Nothing => spoiler(job, l, plan, s, q, a, 1),
+    }
 }

@@ -7,11 +7,11 @@ ghost use Rattle.rules.specs.Plan.{entry};
 ghost use Rattle.job.specs.Layout.{Fit};
 ghost use Rattle.text.specs.PutText.{PutText};
 ghost use Rattle.telling.specs.Lines.{named, comma, place-text, moves-text, advice-text, spoilt-text, spoiler-line};
-ghost use Rattle.telling.specs.Told.{told-entry, told-spoiler};
+ghost use Rattle.telling.specs.Told.{told-entry, told-spoiler, told-action, told-actions, told-why, told-place};
 use crate::names::put_name;
 use crate::names::put_place;
 use crate::spoil::entry_entered;
-use crate::spoil::spoiler;
+use crate::spoil::worst;
 use game::entry::Entry;
 use job::ask::Found;
 use job::layout::Layout;
@@ -128,7 +128,7 @@ fn put_spoiler(
     )
 }
 
-// Why action a is not sure at the place of state s and goal state q: an outcome where all is lost, or else one that is not winning.
+// Why action a is not sure at the place of state s and goal state q, if something spoils it.
 fn put_action(
     out: &mut [u8],
     at: usize,
@@ -147,8 +147,13 @@ fn put_action(
     requires { ⌜ Fit (now job) l ⌝ }
     requires { ⌜ 4 * places (said (now job)) ≤ length (now plan) ⌝ }
     requires { ⌜ q < l .goals ⌝ }
+    ensures { λ r. ⌜ PutText (now (out .entry)) at
+        (told-action (said (now (job .entry))) (now (plan .entry)) s q
+        (named (now (text .entry)) (now (states .entry))) (named (now (text .entry)) (now (actions .entry)))
+        (named (now (phrases .entry)) (now (goals .entry))) a)
+        (now (out .exit)) r ⌝ }
 {
-    match spoiler(job, l, plan, s, q, a, 0) {
+    match worst(job, l, plan, s, q, a) {
         Found::At(k) => put_spoiler(
             out,
             at,
@@ -163,27 +168,11 @@ fn put_action(
             q,
             k,
         ),
-        Found::Nothing => match spoiler(job, l, plan, s, q, a, 1) {
-            Found::At(k) => put_spoiler(
-                out,
-                at,
-                text,
-                states,
-                actions,
-                phrases,
-                goals,
-                job,
-                l,
-                plan,
-                q,
-                k,
-            ),
-            Found::Nothing => at,
-        },
+        Found::Nothing => at,
     }
 }
 
-// Why each open action is not sure.
+// Why each action is not sure that something spoils.
 fn put_why(
     out: &mut [u8],
     at: usize,
@@ -201,6 +190,11 @@ fn put_why(
     requires { ⌜ Fit (now job) l ⌝ }
     requires { ⌜ 4 * places (said (now job)) ≤ length (now plan) ⌝ }
     requires { ⌜ q < l .goals ⌝ }
+    ensures { λ r. ⌜ PutText (now (out .entry)) at
+        (told-actions (said (now (job .entry))) (now (plan .entry)) s q
+        (named (now (text .entry)) (now (states .entry))) (named (now (text .entry)) (now (actions .entry)))
+        (named (now (phrases .entry)) (now (goals .entry))) (l .actions))
+        (now (out .exit)) r ⌝ }
 {
     let mut next = at;
     let mut a: usize = 0;
@@ -249,7 +243,7 @@ fn put_head(
 }
 
 // What the plan says at place i: its own entry there.
-pub fn tell_head(
+fn tell_head(
     out: &mut [u8],
     text: &[u8],
     states: &[usize],
@@ -281,8 +275,58 @@ pub fn tell_head(
     )
 }
 
-// Why place i is not winning: what spoils each open action, or that all is lost.
-pub fn tell_why(
+// Why place i is not winning: what spoils each action, or that all is lost.
+fn tell_why(
+    out: &mut [u8],
+    at: usize,
+    text: &[u8],
+    states: &[usize],
+    actions: &[usize],
+    phrases: &[u8],
+    goals: &[usize],
+    job: &[u8],
+    l: Layout,
+    plan: &[u8],
+    i: usize,
+) -> usize
+    requires { ⌜ Fit (now job) l ⌝ }
+    requires { ⌜ 4 * places (said (now job)) ≤ length (now plan) ⌝ }
+    requires { ⌜ 4 * i + 4 ≤ length (now plan) ⌝ }
+    ensures { λ r. ⌜ PutText (now (out .entry)) at
+        (told-why (said (now (job .entry))) (now (plan .entry)) (i / l .goals) (i % l .goals) (entry (now (plan .entry)) i)
+        (named (now (text .entry)) (now (states .entry))) (named (now (text .entry)) (now (actions .entry)))
+        (named (now (phrases .entry)) (now (goals .entry))))
+        (now (out .exit)) r ⌝ }
+{
+    let e = rules::entry::read_entry(plan, i);
+    if e.value == 0 {
+        return text::put_word(
+            out,
+            at,
+            b"    nothing that is open here can lead to the goal\n",
+        );
+    }
+    if e.value == 1 {
+        return put_why(
+            out,
+            at,
+            text,
+            states,
+            actions,
+            phrases,
+            goals,
+            job,
+            l,
+            plan,
+            i / l.goals,
+            i % l.goals,
+        );
+    }
+    at
+}
+
+// All that is told of place i.
+pub fn tell_place(
     out: &mut [u8],
     text: &[u8],
     states: &[usize],
@@ -297,32 +341,26 @@ pub fn tell_why(
     requires { ⌜ Fit (now job) l ⌝ }
     requires { ⌜ 4 * places (said (now job)) ≤ length (now plan) ⌝ }
     requires { ⌜ 4 * i + 4 ≤ length (now plan) ⌝ }
+    ensures { λ r. ⌜ PutText (now (out .entry)) 0
+        (told-place (said (now (job .entry))) (now (plan .entry)) i
+        (named (now (text .entry)) (now (states .entry))) (named (now (text .entry)) (now (actions .entry)))
+        (named (now (phrases .entry)) (now (goals .entry))))
+        (now (out .exit)) r ⌝ }
 {
-    let e = rules::entry::read_entry(plan, i);
-    if e.value == 0 {
-        return text::put_word(
-            out,
-            0,
-            b"    nothing that is open here can lead to the goal\n",
-        );
-    }
-    if e.value == 1 {
-        return put_why(
-            out,
-            0,
-            text,
-            states,
-            actions,
-            phrases,
-            goals,
-            job,
-            l,
-            plan,
-            i / l.goals,
-            i % l.goals,
-        );
-    }
-    0
+    let at = tell_head(out, text, states, actions, phrases, goals, l, plan, i);
+    tell_why(
+        out,
+        at,
+        text,
+        states,
+        actions,
+        phrases,
+        goals,
+        job,
+        l,
+        plan,
+        i,
+    )
 }
 
 // What can be said of the whole, by the value of the start.

@@ -1,70 +1,51 @@
 -- `told::put_action` meets its contract.
-use Rattle.telling.proofs.Seeking.{spoilt-below}
+use mathlib.Core.Path.{sym, _∙_}
+use Rattle.rules.specs.Bytes.{said}
+use Rattle.job.proofs.Asking.{records-said}
+use Rattle.text.proofs.Putting.{put-none}
+use Rattle.telling.proofs.Seeking.{worst-below}
 use borrow.Author.Needs.{needs}
 use Rattle.telling.proofs.told.put_action.Statement.{statement}
 use Rattle.telling.proofs.told.put_action.Tie as tie
 
-spoiler-requires : tie.Need-spoiler-requires
-spoiler-requires c κs = search needs
+worst-requires : tie.Need-worst-requires
+worst-requires c κs = search needs
 
 enum-known-k : tie.Need-enum-known-k
 enum-known-k c = search needs
 
 put-spoiler-requires : tie.Need-put-spoiler-requires
 put-spoiler-requires c κs =
-    let s = c .before .before .before .before .before .before .before .before .before .before .before .before .before in
+    let h = c .before .before .before .before in
+    let s = h .before .before .before .before .before .before .before .before .before in
     let x = s .args in
     let k = c .before .before .k .given in
-    (s .pre .0, (s .pre .1 .0, (s .pre .1 .1, spoilt-below (x .plan .now) (x .s) (x .q) (x .a) 0 _ (s .pre .0) (k .1) (c .before .before .before .before .spoiler .ensures))))
+    (s .pre .0, (s .pre .1 .0, (s .pre .1 .1, rw (records-said (s .pre .0)) (worst-below (said (x .job .now)) (x .plan .now) (x .s) (x .q) (x .a) _ (sym (k .1) ∙ h .worst .ensures)))))
 
 enum-told : tie.Need-enum-told
 enum-told c = search needs
-
-spoiler-requires-2 : tie.Need-spoiler-requires-2
-spoiler-requires-2 c κs = search needs
-
-enum-known-k-2 : tie.Need-enum-known-k-2
-enum-known-k-2 c = search needs
-
-put-spoiler-requires-2 : tie.Need-put-spoiler-requires-2
-put-spoiler-requires-2 c κs =
-    let s = c .before .before .before .before .before .before .before .before .before .before .before .before .before .before .before .before in
-    let x = s .args in
-    let k = c .before .before .k2 .given in
-    (s .pre .0, (s .pre .1 .0, (s .pre .1 .1, spoilt-below (x .plan .now) (x .s) (x .q) (x .a) 1 _ (s .pre .0) (k .1) (c .before .before .before .before .spoiler2 .ensures))))
-
-enum-told-2 : tie.Need-enum-told-2
-enum-told-2 c = search needs
 
 same-length : tie.Need-same-length
 same-length c = search needs
 
 returns : tie.Need-returns
-returns c = search needs
-
-same-length-2 : tie.Need-same-length-2
-same-length-2 c = search needs
+returns c =
+    let p = c .before .before in
+    let h = p .before .before .before .before .before in
+    let k = p .before .before .before .k .given in
+    rw (← h .worst .ensures, k .1) (p .put-spoiler .ensures)
 
 returns-2 : tie.Need-returns-2
-returns-2 c = search needs
-
-returns-3 : tie.Need-returns-3
-returns-3 c = search needs
+returns-2 c = rw (← c .before .before .worst .ensures, c .enum-told .given .1) (put-none _ _)
 
 pub put-action-spec : {M : Type 1} → statement M
 put-action-spec =
     tie.close
     (tie.spec
-    spoiler-requires
+    worst-requires
     enum-known-k
     put-spoiler-requires
     enum-told
-    spoiler-requires-2
-    enum-known-k-2
-    put-spoiler-requires-2
-    enum-told-2
     same-length
     returns
-    same-length-2
-    returns-2
-    returns-3)
+    returns-2)

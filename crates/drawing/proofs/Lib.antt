@@ -1,0 +1,2 @@
+-- What the proofs of drawing cite.
+pub mod Growing

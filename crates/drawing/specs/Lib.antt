@@ -1,0 +1,2 @@
+-- What the promises of drawing are said with.
+pub mod Queue

@@ -1,0 +1,2 @@
+-- What the promises of seen are said with.
+pub mod Kept
