@@ -1,18 +1,18 @@
--- Looking for the last number below n that passes a test, from above, and the record that is told of an action.
+-- Looking for the last number below n that passes a test, from above, and which records need no look.
 use Prim.Native.Nat.{ℕ, zero, suc, _-_, _≤_, _<_}
 use mathlib.Core.Bool.{Bool, true, false, or-false}
 use mathlib.Core.List.{List}
-use mathlib.Core.Logic.{_⊎_, inl, inr, Iff·rfl}
-use mathlib.Core.Path.{_≡_, refl, sym, ap, _∙_}
+use mathlib.Core.Logic.{_⊎_, inl, inr}
+use mathlib.Core.Path.{_≡_, refl, sym, _∙_}
 use native.Mathlib.Nat.{eq-or-lt-of-le}
 use native.Mathlib.Omega.{arith}
 use Rattle.game.specs.Below.{some-below, last-below}
 use Rattle.game.proofs.Search.{clash, if-not-true}
-use Rattle.game.proofs.Tests.{and-iff, some-stops, some-met, last-met}
+use Rattle.game.proofs.Tests.{some-met}
 use Rattle.rules.specs.Job.{Job, is-from}
-use Rattle.job.specs.declared.ask.Found.{Found}
 use Rattle.telling.specs.Ranges.{Together}
-use Rattle.telling.specs.Spoilt.{spoils, is-spoilt, last-spoiler, SpoiltBy, worst}
+use Rattle.telling.specs.Spoilt.{spoils}
+use Rattle.telling.proofs.Worst.{spoils-iff}
 
 -- of the numbers below n none from k on passes
 pub record Sought (n : ℕ) (f : ℕ → Bool) (k : ℕ) : Type 0 where
@@ -58,29 +58,5 @@ pub not-among : (j : Job) (p : List ℕ) (s q a v : ℕ) {low high : ℕ} → To
 not-among j p s q a v t k h out =
     if-not-true (spoils j p s q a v k)
     (λ e.
-    let (low, high) = t .all k h (and-iff Iff·rfl Iff·rfl .0 e .0) in
+    let (low, high) = t .all k h (spoils-iff j p s q a v k .0 e .0) in
     out low high)
-
--- ---- the record that is told of an action
-
-module _ (j : Job) (p : List ℕ) (s q a : ℕ) where
-  -- the last that spoils it by losing, and where none does, what is found by at most pending
-  pub worst-lost : (k : ℕ) → SpoiltBy j p s q a 0 (Found.At k) → Found.At k ≡ worst j p s q a
-  worst-lost k (h, e, last) = rw (some-stops (spoils j p s q a 0) (j .records) k h e) (ap Found.At last)
-
-  pub worst-else : (r : Found) → SpoiltBy j p s q a 0 Found.Nothing → SpoiltBy j p s q a 1 r → r ≡ worst j p s q a
-  worst-else (Found.At k) none (h, e, last) = rw (none, some-stops (spoils j p s q a 1) (j .records) k h e) (ap Found.At last)
-  worst-else Found.Nothing none more = rw (none, more)
-
-  -- it is one of the job's
-  pub worst-below : (k : ℕ) → Found.At k ≡ worst j p s q a → k < j .records
-  worst-below k e = go (is-spoilt j p s q a 0) refl (is-spoilt j p s q a 1) refl
-    where
-      go : (x : Bool) → is-spoilt j p s q a 0 ≡ x → (y : Bool) → is-spoilt j p s q a 1 ≡ y → k < j .records
-      go true x y z =
-          let same : k ≡ last-spoiler j p s q a 0 = let h = rw x at e in cc in
-          rw same (last-met (spoils j p s q a 0) (j .records) x .0)
-      go false x true z =
-          let same : k ≡ last-spoiler j p s q a 1 = let h = rw (x, z) at e in cc in
-          rw same (last-met (spoils j p s q a 1) (j .records) z .0)
-      go false x false z = let h = rw (x, z) at e in let n : _≡_ {A = ℕ} 0 1 = cc in absurd (omega arith)

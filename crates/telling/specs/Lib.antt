@@ -2,4 +2,5 @@
 pub mod Lines
 pub mod Ranges
 pub mod Spoilt
+pub mod Reason
 pub mod Told

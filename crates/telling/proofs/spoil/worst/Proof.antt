@@ -1,6 +1,6 @@
 -- `spoil::worst` meets its contract.
 use Rattle.rules.specs.Bytes.{said}
-use Rattle.telling.proofs.Seeking.{worst-lost, worst-else}
+use Rattle.telling.proofs.Worst.{worst-lost, worst-else}
 use borrow.Author.Needs.{needs}
 use Rattle.telling.proofs.spoil.worst.Statement.{statement}
 use Rattle.telling.proofs.spoil.worst.Tie as tie

@@ -3,7 +3,7 @@ use mathlib.Core.Path.{sym, _∙_}
 use Rattle.rules.specs.Bytes.{said}
 use Rattle.job.proofs.Asking.{records-said}
 use Rattle.text.proofs.Putting.{put-none}
-use Rattle.telling.proofs.Seeking.{worst-below}
+use Rattle.telling.proofs.Worst.{worst-spoils}
 use borrow.Author.Needs.{needs}
 use Rattle.telling.proofs.told.put_action.Statement.{statement}
 use Rattle.telling.proofs.told.put_action.Tie as tie
@@ -20,7 +20,7 @@ put-spoiler-requires c κs =
     let s = h .before .before .before .before .before .before .before .before .before in
     let x = s .args in
     let k = c .before .before .k .given in
-    (s .pre .0, (s .pre .1 .0, (s .pre .1 .1, rw (records-said (s .pre .0)) (worst-below (said (x .job .now)) (x .plan .now) (x .s) (x .q) (x .a) _ (sym (k .1) ∙ h .worst .ensures)))))
+    (s .pre .0, (s .pre .1 .0, (s .pre .1 .1, rw (records-said (s .pre .0)) (worst-spoils (said (x .job .now)) (x .plan .now) (x .s) (x .q) (x .a) _ (sym (k .1) ∙ h .worst .ensures) .0))))
 
 enum-told : tie.Need-enum-told
 enum-told c = search needs
