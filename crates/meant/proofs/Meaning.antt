@@ -3,9 +3,11 @@ use Prim.Native.Nat.{ℕ, _+_, _*_, _/_, _%_, _≤_, _<_}
 use mathlib.Core.Bool.{Bool, true, false}
 use mathlib.Core.List.{List}
 use mathlib.Core.Path.{_≡_, refl, sym, ap, _∙_}
+use mathlib.Core.Logic.{⊎-elim}
 use native.Mathlib.Omega.{arith}
 use lib.Dec.{eqb}
 use lib.ListN.{length, getD}
+use Rattle.sets.proofs.Bits.{bit-none, below-or}
 use Rattle.game.proofs.Tests.{same-test, some-met, and-iff, eqb-iff}
 use Rattle.rules.specs.Job.{Job, is-record, recorded}
 use Rattle.rules.specs.Bytes.{byte, said}
@@ -25,6 +27,16 @@ found-there j s a t e f = sym ((rw e at f) .0)
 
 pub found-nowhere : (j : Job) (s a t : ℕ) {r : Found} → r ≡ Found.Nothing → FoundOf j s a t r → false ≡ recorded j s a t
 found-nowhere j s a t e f = sym (rw e at f)
+
+-- what holds of the numbers of the bytes before byte k, and of those of byte k, holds up to the byte after
+pub byte-more : (P : ℕ → Type 0) (k : ℕ) → ((j : ℕ) → j < 8 * k → P j) → ((j : ℕ) → j < 8 * k + 8 → 8 * k ≤ j → P j) → (j : ℕ) → j < 8 * (k + 1) → P j
+byte-more P k before at j h = ⊎-elim (λ (g : j < 8 * k). before j g) (λ (g : 8 * k ≤ j). at j (omega (arith, h)) g) (below-or j (8 * k))
+
+-- a byte that is 0 has no number
+pub none-said : (moves : List ℕ) (k j : ℕ) → getD moves k 0 ≡ 0 → j < 8 * k + 8 → 8 * k ≤ j → has moves j ≡ false
+none-said moves k j e h g =
+    let ed : j / 8 ≡ k = omega (arith, h, g) in
+    rw (ed, e) (bit-none (j % 8))
 
 -- the label of a state lies where the layout says
 pub label-there : {b : List ℕ} {l : Layout} → Fit b l → (s : ℕ) → getD b (l .«labels_at» + s) 0 ≡ byte b 1 s

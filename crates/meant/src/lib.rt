@@ -3,7 +3,7 @@ pub mod goal;
 
 ghost use mathlib.Core.Path.{_≡_};
 ghost use mathlib.Core.Bool.{true};
-ghost use Prim.Native.Nat.{ℕ, _/_, _%_, _<_, _≤_};
+ghost use Prim.Native.Nat.{ℕ, _+_, _*_, _/_, _%_, _<_, _≤_};
 ghost use lib.ListN.{length, getD};
 ghost use Rattle.game.specs.Below.{every-below};
 ghost use Rattle.rules.specs.Job.{recorded};
@@ -53,15 +53,16 @@ fn is_recorded(job: &[u8], l: Layout, i: usize) -> bool
     }
 }
 
-// Whether each move that was said is recorded.
-fn all_recorded(job: &[u8], l: Layout, moves: &[u8]) -> bool
+// Whether each of the eight moves that byte k of the set tells of is recorded, if it was said.
+fn byte_recorded(job: &[u8], l: Layout, moves: &[u8], k: usize) -> bool
     requires { ⌜ Fit (now job) l ⌝ }
-    requires { ⌜ length (now moves) ≡ 524288 ⌝ }
-    ensures { λ r. ⌜ (r ≡ true → (i : ℕ) → i < 4194304 → has (now (moves .entry)) i ≡ true
+    requires { ⌜ (length (now moves) ≡ 524288) × (k < 524288) ⌝ }
+    ensures { λ r. ⌜ (r ≡ true → (i : ℕ) → i < 8 * k + 8 → 8 * k ≤ i → has (now (moves .entry)) i ≡ true
         → recorded (said (now (job .entry))) (i / 8192) (i / 512 % 16) (i % 512) ≡ true) ⌝ }
 {
-    let mut i: usize = 0;
-    while i < 4194304 {
+    let end = 8 * k + 8;
+    let mut i = 8 * k;
+    while i < end {
         if lines::numbers::has(moves, i) {
             if !is_recorded(job, l, i) {
                 return false;
@@ -69,6 +70,27 @@ fn all_recorded(job: &[u8], l: Layout, moves: &[u8]) -> bool
             i += 1;
         } else {
             i += 1;
+        }
+    }
+    true
+}
+
+// Whether each move that was said is recorded. Most bytes of the set are 0, and are passed over.
+fn all_recorded(job: &[u8], l: Layout, moves: &[u8]) -> bool
+    requires { ⌜ Fit (now job) l ⌝ }
+    requires { ⌜ length (now moves) ≡ 524288 ⌝ }
+    ensures { λ r. ⌜ (r ≡ true → (i : ℕ) → i < 4194304 → has (now (moves .entry)) i ≡ true
+        → recorded (said (now (job .entry))) (i / 8192) (i / 512 % 16) (i % 512) ≡ true) ⌝ }
+{
+    let mut k: usize = 0;
+    while k < 524288 {
+        if moves[k] != 0 {
+            if !byte_recorded(job, l, moves, k) {
+                return false;
+            }
+            k += 1;
+        } else {
+            k += 1;
         }
     }
     true
