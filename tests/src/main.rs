@@ -13,6 +13,7 @@ mod oracle;
 mod random;
 mod report;
 mod salvages;
+mod shown;
 mod slips;
 mod trembling;
 mod words;
@@ -48,7 +49,9 @@ cabinet-tests report               the oracle's report of the bundle on standard
 cabinet-tests reports WORDS        the report program, started by these words, beside the oracle's report
 cabinet-tests turn                 the job of the text in words on standard input, or on standard error its faults
 cabinet-tests words [SEED] WORDS   the program that turns such texts, started by these words, beside the oracle's reader
-cabinet-tests text NUMBER [SEED]   one text of that run";
+cabinet-tests text NUMBER [SEED]   one text of that run
+cabinet-tests show [--dot] FILE    the job in words in this file as the oracle tells it, or draws it
+cabinet-tests shown [SEED] WORDS   the program that shows such jobs, started by these words, beside the oracle";
 
 /// Tries the inputs with these numbers, prints the counts and says whether everything has come up.
 fn tried(inputs: &Inputs, seed: u64, numbers: std::ops::Range<u64>) -> bool {
@@ -168,7 +171,7 @@ fn command(words: &[String]) -> Option<()> {
                 std::process::exit(1);
             }
         }
-        _ => return words::command(words, SEED),
+        _ => return words::command(words, SEED).or_else(|| shown::command(words, SEED)),
     }
     Some(())
 }

@@ -19,7 +19,7 @@ pub struct Row {
 pub struct Goal {
     /// How many lines are clauses by their shape, and those whose facts are known.
     pub asked: usize,
-    clauses: Vec<Clause>,
+    pub clauses: Vec<Clause>,
     pub first_given: bool,
     first: usize,
     pub final_given: bool,

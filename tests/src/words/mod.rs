@@ -3,15 +3,17 @@
 mod bytes;
 mod faults;
 mod goal;
-mod make;
+pub mod make;
 mod names;
 mod reader;
 mod tally;
 mod text;
 
 use crate::oracle;
-use faults::Fault;
-use reader::Reader;
+pub use bytes::job;
+pub use faults::{told, Fault};
+pub use names::{Kind, FORM, LONGEST_NAME};
+pub use reader::Reader;
 use std::io::{Read, Write};
 use std::process::{Command, Output, Stdio};
 use tally::Tally;
@@ -19,24 +21,29 @@ use tally::Tally;
 /// A longer text is not read.
 const LONGEST: usize = 262_144;
 
-/// The job of a text, or its faults.
-fn read(text: &[u8]) -> Result<Vec<u8>, Vec<Fault>> {
+/// What a text says, or its faults.
+pub fn understood(text: &[u8]) -> Result<Reader<'_>, Vec<Fault>> {
     if text.len() > LONGEST {
         return Err(vec![Fault::whole("the text is longer than 262144 bytes")]);
     }
     let reader = Reader::new(&text::lines(text));
     if reader.faults.is_empty() {
-        Ok(bytes::job(&reader))
+        Ok(reader)
     } else {
         Err(reader.faults)
     }
+}
+
+/// The job of a text, or its faults.
+fn read(text: &[u8]) -> Result<Vec<u8>, Vec<Fault>> {
+    understood(text).map(|reader| job(&reader))
 }
 
 /// What goes to standard output of a text that was read, and to standard error.
 fn turned(read: &Result<Vec<u8>, Vec<Fault>>) -> (&[u8], String) {
     match read {
         Ok(job) => (job, String::new()),
-        Err(faults) => (&[], faults::told(faults)),
+        Err(faults) => (&[], told(faults)),
     }
 }
 

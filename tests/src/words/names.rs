@@ -24,7 +24,7 @@ pub const FORM: [&str; 16] = [
 ];
 /// What may stand before a colon beside a goal state.
 const KEYS: [&str; 8] = ["states", "actions", "facts", "goal-states", "start", "first", "final", "goal"];
-const LONGEST_NAME: usize = 64;
+pub const LONGEST_NAME: usize = 64;
 
 /// What a name is a name of.
 #[derive(Clone, Copy, PartialEq, Eq)]
@@ -82,6 +82,10 @@ pub struct Names<'a>([Vec<Word<'a>>; 4]);
 impl<'a> Names<'a> {
     pub fn count(&self, kind: Kind) -> usize {
         self.0[kind as usize].len()
+    }
+
+    pub fn all(&self, kind: Kind) -> Vec<String> {
+        self.0[kind as usize].iter().map(|name| String::from_utf8_lossy(name).into_owned()).collect()
     }
 
     pub fn number(&self, kind: Kind, word: Word) -> Option<usize> {

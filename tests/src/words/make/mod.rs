@@ -2,9 +2,9 @@
 
 mod damage;
 mod edges;
-mod good;
-mod layout;
-mod names;
+pub mod good;
+pub mod layout;
+pub mod names;
 
 use crate::random::Random;
 use edges::EDGES;
