@@ -179,8 +179,11 @@ try-words: tests build/cabinet-words
 	@$(TESTS) words $(RUN) target/bin/from_words
 	@$(MAKE) --no-print-directory plan JOB=examples/plate.words SLIPS= | diff crates/listing/stdout -
 
-try-show: build/cabinet-show
+try-show: tests build/cabinet-show
 	@sh tests/show/run $(CURDIR)/build/cabinet-show
+	@sh tests/show/run $(CURDIR)/build/cargo/release/cabinet-tests show
+	@build/cabinet-show no-such-text 2>build/show.told; [ $$? = 2 ] && echo 'cabinet-show: no-such-text: cannot be opened' | cmp -s - build/show.told
+	@$(TESTS) shown $(RUN) target/bin/show
 
 # More inputs: make soak N=10000000
 soak: tests
