@@ -5,7 +5,7 @@ ghost use lib.ListN.{length};
 ghost use Rattle.lines.specs.Names.{Lie};
 ghost use Rattle.phrases.specs.Tables.{Tables, Kept, Keeping};
 use faults::fault::Seen;
-use faults::fault::say_unknown;
+use faults::fault::say_no_key;
 use faults::fault::say_word;
 use lines::names::find;
 use lines::word::is_same;
@@ -106,16 +106,7 @@ fn row_line(
 {
     let q = find(text, goals, g, &text[start..end]);
     if g <= q {
-        return say_unknown(
-            out,
-            seen,
-            line,
-            b"goal state",
-            &text[start..end],
-            text,
-            goals,
-            g,
-        );
+        return say_no_key(out, seen, line, &text[start..end], text, goals, g);
     }
     let mut now = seen;
     now.has_row = true;

@@ -154,6 +154,54 @@ pub fn say_unknown(
     now
 }
 
+// Tells that a word names no key, if a key of the list is near, and otherwise that it names no goal state.
+fn say_key_or(
+    out: &mut [u8],
+    seen: Seen,
+    line: u32,
+    word: &[u8],
+    text: &[u8],
+    goals: &[usize],
+    g: usize,
+    list: &[u8],
+) -> Seen
+    requires { ⌜ Lie (now text) (now goals) g ⌝ }
+{
+    let mut keys = [0usize; 16];
+    let k = lines::names::list(&mut keys, list, b"keys");
+    if crate::near::nearest(list, &keys, k, word) < k {
+        return say_unknown(out, seen, line, b"key", word, list, &keys, k);
+    }
+    say_unknown(out, seen, line, b"goal state", word, text, goals, g)
+}
+
+// Tells that a word before a colon names no goal state, or no key where only a key is near.
+pub fn say_no_key(
+    out: &mut [u8],
+    seen: Seen,
+    line: u32,
+    word: &[u8],
+    text: &[u8],
+    goals: &[usize],
+    g: usize,
+) -> Seen
+    requires { ⌜ Lie (now text) (now goals) g ⌝ }
+{
+    if crate::near::nearest(text, goals, g, word) < g {
+        return say_unknown(out, seen, line, b"goal state", word, text, goals, g);
+    }
+    say_key_or(
+        out,
+        seen,
+        line,
+        word,
+        text,
+        goals,
+        g,
+        b"keys: states actions facts goal-states start first final goal",
+    )
+}
+
 // Tells how many faults more there are, if any.
 pub fn say_more(out: &mut [u8], seen: Seen) -> usize {
     if seen.more == 0 {

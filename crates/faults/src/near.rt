@@ -1,4 +1,4 @@
-// The name that a misspelt word may stand for: one whose letters differ from the word's in two at most that stand together.
+// The name that a misspelt word may stand for: the nearest of those that begin or end like it and leave two letters at most of either.
 ghost use Prim.Native.Nat.{_+_, _≤_, _<_};
 ghost use lib.ListN.{length};
 ghost use Rattle.lines.specs.Names.{Lie};
@@ -38,40 +38,52 @@ fn alike_back(a: &[u8], b: &[u8], p: usize) -> usize
     q
 }
 
-// Whether two words differ in two letters at most that stand together, and are alike elsewhere.
-fn is_near(a: &[u8], b: &[u8]) -> bool {
+// How many letters two words leave of both together, beside those that they begin with alike and then those that they end with alike; 5 where
+// they begin and end otherwise, or where one leaves more than two.
+fn apart(a: &[u8], b: &[u8]) -> usize {
     let p = alike_front(a, b);
     let q = alike_back(a, b, p);
     if p + q == 0 {
-        return false;
+        return 5;
     }
-    if 2 < a.len() - p - q {
-        return false;
+    let x = a.len() - p - q;
+    if 2 < x {
+        return 5;
     }
-    b.len() - p - q <= 2
+    let y = b.len() - p - q;
+    if 2 < y {
+        return 5;
+    }
+    x + y
 }
 
-// Whether name k of a table is near the word.
-fn is_near_name(text: &[u8], spans: &[usize], n: usize, k: usize, word: &[u8]) -> bool
+// How many letters name k of a table and the word leave.
+fn apart_name(text: &[u8], spans: &[usize], n: usize, k: usize, word: &[u8]) -> usize
     requires { ⌜ Lie (now text) (now spans) n ⌝ }
     requires { ⌜ k < n ⌝ }
 {
     let start = spans[2 * k];
     let end = spans[2 * k + 1];
-    is_near(&text[start..end], word)
+    apart(&text[start..end], word)
 }
 
-// The first name of a table that is near the word, or how many names there are.
+// The name of a table that leaves the fewest letters beside the word, the first of these; or how many names there are, where none is near.
 pub fn nearest(text: &[u8], spans: &[usize], n: usize, word: &[u8]) -> usize
     requires { ⌜ Lie (now text) (now spans) n ⌝ }
     ensures { λ r. ⌜ r ≤ n ⌝ }
 {
+    let mut best = n;
+    let mut least: usize = 5;
     let mut k: usize = 0;
     while k < n {
-        if is_near_name(text, spans, n, k, word) {
-            return k;
+        let left = apart_name(text, spans, n, k, word);
+        if left < least {
+            least = left;
+            best = k;
+            k += 1;
+        } else {
+            k += 1;
         }
-        k += 1;
     }
-    k
+    best
 }

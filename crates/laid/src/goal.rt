@@ -47,23 +47,20 @@ fn check_table(out: &mut [u8], seen: Seen) -> Seen {
 // What a goal lacks, or has too much of.
 pub fn check_goal(out: &mut [u8], seen: Seen, g: usize) -> Seen {
     if is_table(seen, g) {
-        if 0 < seen.clauses {
-            return say(
-                out,
-                seen,
-                b"a goal is made of clauses or of goal states, and not of both",
-            );
-        }
-        return check_table(out, seen);
-    }
-    if seen.clauses == 0 {
-        return say(
+        let now = need(
             out,
             seen,
-            b"no goal is given; expected clauses, or a line 'goal-states: ...'",
+            seen.clauses == 0,
+            b"a goal is made of clauses or of goal states, and not of both",
         );
+        return check_table(out, now);
     }
-    seen
+    need(
+        out,
+        seen,
+        0 < seen.clauses,
+        b"no goal is given; expected clauses, or a line 'goal-states: ...'",
+    )
 }
 
 // What a text does not list.

@@ -79,6 +79,20 @@ pub fn expect_end(out: &mut [u8], seen: Seen, line: u32, text: &[u8], at: usize)
     )
 }
 
+// The number of a name that a line lists, or how many names there are where it stands after the last that has room. Names are in the table
+// in the order in which they stand.
+fn find_listed(text: &[u8], spans: &[usize], n: usize, start: usize, word: &[u8]) -> usize
+    requires { ⌜ Lie (now text) (now spans) n ⌝ }
+{
+    if n == 0 {
+        return n;
+    }
+    if spans[2 * (n - 1)] < start {
+        return n;
+    }
+    find(text, spans, n, word)
+}
+
 // A name that a line lists: well made, not given before, and in the table.
 pub fn check_name(
     out: &mut [u8],
@@ -125,7 +139,7 @@ pub fn check_name(
             b" is a word of the form, and no name",
         );
     }
-    let k = find(text, spans, n, word);
+    let k = find_listed(text, spans, n, start, word);
     if n <= k {
         return say_word(out, seen, line, full, word, b" is one too many");
     }
@@ -227,17 +241,13 @@ fn check_mark(out: &mut [u8], seen: Seen, line: u32, mark: &[u8], word: &[u8]) -
 
 // At a line's end no name may be due.
 fn check_due(out: &mut [u8], seen: Seen, line: u32, kind: &[u8], due: bool) -> Seen {
-    if due {
-        return say_word(
-            out,
-            seen,
-            line,
-            b"expected a name at the line's end, of a ",
-            kind,
-            b"",
-        );
+    if !due {
+        return seen;
     }
-    seen
+    if is_same(kind, b"state") {
+        return say_line(out, seen, line, b"expected a state at the line's end");
+    }
+    say_line(out, seen, line, b"expected a fact at the line's end")
 }
 
 // The state that a job starts in.
@@ -396,7 +406,7 @@ pub fn is_key(key: &[u8]) -> bool {
     is_listed(b"states actions facts goal-states start first goal", key)
 }
 
-// A clause of the goal, whose facts are known.
+// A clause of the goal, with its facts by their numbers.
 fn put_clause(
     out: &mut [u8],
     slip: &mut [u8],
@@ -421,6 +431,72 @@ fn put_clause(
     now
 }
 
+// A fact of a clause.
+fn check_fact(
+    out: &mut [u8],
+    seen: Seen,
+    line: u32,
+    text: &[u8],
+    word: &[u8],
+    facts: &[usize],
+    f: usize,
+) -> Seen
+    requires { ⌜ Lie (now text) (now facts) f ⌝ }
+{
+    if find(text, facts, f, word) < f {
+        return seen;
+    }
+    say_unknown(out, seen, line, b"fact", word, text, facts, f)
+}
+
+// Both facts of a clause.
+fn check_facts(
+    out: &mut [u8],
+    seen: Seen,
+    line: u32,
+    text: &[u8],
+    one: &[u8],
+    other: &[u8],
+    facts: &[usize],
+    f: usize,
+) -> Seen
+    requires { ⌜ Lie (now text) (now facts) f ⌝ }
+{
+    let now = check_fact(out, seen, line, text, one, facts, f);
+    check_fact(out, now, line, text, other, facts, f)
+}
+
+// The number of a fact by its word, where it is known.
+fn number_of(text: &[u8], word: &[u8], facts: &[usize], f: usize) -> u8
+    requires { ⌜ (Lie (now text) (now facts) f) × (f ≤ 6) ⌝ }
+{
+    let k = find(text, facts, f, word);
+    if k < f {
+        return k as u8;
+    }
+    255
+}
+
+// A clause of the goal with one fact by its word.
+fn clause_of_one(
+    out: &mut [u8],
+    slip: &mut [u8],
+    seen: Seen,
+    line: u32,
+    kind: u8,
+    text: &[u8],
+    one: &[u8],
+    facts: &[usize],
+    f: usize,
+) -> Seen
+    requires { ⌜ (Lie (now text) (now facts) f) × (f ≤ 6) × (length (now slip) ≡ 9) ⌝ }
+    ensures { λ _. ⌜ length (now (slip .exit)) ≡ length (now (slip .entry)) ⌝ }
+{
+    let now = check_fact(out, seen, line, text, one, facts, f);
+    let i = number_of(text, one, facts, f);
+    put_clause(out, slip, now, line, kind, i, i)
+}
+
 // A clause of the goal with its two facts by their words.
 fn clause(
     out: &mut [u8],
@@ -437,15 +513,10 @@ fn clause(
     requires { ⌜ (Lie (now text) (now facts) f) × (f ≤ 6) × (length (now slip) ≡ 9) ⌝ }
     ensures { λ _. ⌜ length (now (slip .exit)) ≡ length (now (slip .entry)) ⌝ }
 {
-    let i = find(text, facts, f, one);
-    if f <= i {
-        return say_unknown(out, seen, line, b"fact", one, text, facts, f);
-    }
-    let k = find(text, facts, f, other);
-    if f <= k {
-        return say_unknown(out, seen, line, b"fact", other, text, facts, f);
-    }
-    put_clause(out, slip, seen, line, kind, i as u8, k as u8)
+    let i = number_of(text, one, facts, f);
+    let k = number_of(text, other, facts, f);
+    let now = check_facts(out, seen, line, text, one, other, facts, f);
+    put_clause(out, slip, now, line, kind, i, k)
 }
 
 // A line "whenever F then G", from its third word on.
@@ -591,11 +662,11 @@ pub fn clause_line(
 {
     if is_same(one, b"eventually") {
         let now = expect_end(out, seen, line, text, end);
-        return clause(out, slip, now, line, 0, text, two, two, facts, f);
+        return clause_of_one(out, slip, now, line, 0, text, two, facts, f);
     }
     if is_same(one, b"never") {
         let now = expect_end(out, seen, line, text, end);
-        return clause(out, slip, now, line, 1, text, two, two, facts, f);
+        return clause_of_one(out, slip, now, line, 1, text, two, facts, f);
     }
     let w = next_word(text, end);
     let from = w.start;

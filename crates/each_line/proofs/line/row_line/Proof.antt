@@ -16,20 +16,17 @@ part-find-end c = search needs
 find-requires : tie.Need-find-requires
 find-requires c κs = search needs
 
-slice-aggregate-say-unknown : tie.Need-slice-aggregate-say-unknown
-slice-aggregate-say-unknown c = search needs
+sub-say-no-key : tie.Need-sub-say-no-key
+sub-say-no-key c = search needs
 
-sub-say-unknown : tie.Need-sub-say-unknown
-sub-say-unknown c = search needs
+part-say-no-key-start : tie.Need-part-say-no-key-start
+part-say-no-key-start c = search needs
 
-part-say-unknown-start : tie.Need-part-say-unknown-start
-part-say-unknown-start c = search needs
+part-say-no-key-end : tie.Need-part-say-no-key-end
+part-say-no-key-end c = search needs
 
-part-say-unknown-end : tie.Need-part-say-unknown-end
-part-say-unknown-end c = search needs
-
-say-unknown-requires : tie.Need-say-unknown-requires
-say-unknown-requires c κs = search needs
+say-no-key-requires : tie.Need-say-no-key-requires
+say-no-key-requires c κs = search needs
 
 same-length : tie.Need-same-length
 same-length c = search needs
@@ -64,11 +61,10 @@ row-line-spec =
     part-find-start
     part-find-end
     find-requires
-    slice-aggregate-say-unknown
-    sub-say-unknown
-    part-say-unknown-start
-    part-say-unknown-end
-    say-unknown-requires
+    sub-say-no-key
+    part-say-no-key-start
+    part-say-no-key-end
+    say-no-key-requires
     same-length
     returns
     read-facts-requires

@@ -1,24 +1,24 @@
 -- `near::nearest` meets its contract.
-use Prim.Native.Nat.{_-_, _≤_}
+use Prim.Native.Nat.{ℕ, _+_, _-_, _*_, _≤_, _<_}
 use native.Mathlib.Omega.{arith}
 use borrow.Author.Needs.{needs}
 use Rattle.faults.proofs.near.nearest.Statement.{statement}
 use Rattle.faults.proofs.near.nearest.Tie as tie
+use Rattle.faults.proofs.near.nearest.Reads as reads
+use Rattle.faults.proofs.near.nearest.Lts as lts
+use Rattle.faults.proofs.near.apart_name.Reads as apart-name-reads
 
 abbrev Inv-loop : tie.InvT-loop
-Inv-loop text spans n word k₀ k = k ≤ n
+Inv-loop text spans n word best₀ least₀ k₀ best least k = (best ≤ n) × (k ≤ n)
 
 abbrev μ-loop : tie.MeasureT-loop
-μ-loop text spans n word k₀ k = n - k
+μ-loop text spans n word best₀ least₀ k₀ best least k = n - k
 
 loop-holds : tie.Need-loop-holds Inv-loop μ-loop
 loop-holds c = search needs
 
-is-near-name-requires : tie.Need-is-near-name-requires Inv-loop μ-loop
-is-near-name-requires c κs = search needs
-
-returns : tie.Need-returns Inv-loop μ-loop
-returns c = search needs
+apart-name-requires : tie.Need-apart-name-requires Inv-loop μ-loop
+apart-name-requires c κs = search needs
 
 add-k : tie.Need-add-k Inv-loop μ-loop
 add-k c = search needs
@@ -29,8 +29,17 @@ loop-less c = search needs
 loop-again : tie.Need-loop-again Inv-loop μ-loop
 loop-again c = search needs
 
-returns-2 : tie.Need-returns-2 Inv-loop μ-loop
-returns-2 c = search needs
+add-k-2 : tie.Need-add-k-2 Inv-loop μ-loop
+add-k-2 c = search needs
+
+loop-less-2 : tie.Need-loop-less-2 Inv-loop μ-loop
+loop-less-2 c = search needs
+
+loop-again-2 : tie.Need-loop-again-2 Inv-loop μ-loop
+loop-again-2 c = search needs
+
+returns : tie.Need-returns Inv-loop μ-loop
+returns c = search needs
 
 pub nearest-spec : {M : Type 1} → statement M
 nearest-spec =
@@ -39,9 +48,11 @@ nearest-spec =
     Inv-loop
     μ-loop
     loop-holds
-    is-near-name-requires
-    returns
+    apart-name-requires
     add-k
     loop-less
     loop-again
-    returns-2)
+    add-k-2
+    loop-less-2
+    loop-again-2
+    returns)

@@ -1,8 +1,8 @@
--- `near::is_near_name` meets its contract.
+-- `near::apart_name` meets its contract.
 use native.Mathlib.Omega.{arith}
 use borrow.Author.Needs.{needs}
-use Rattle.faults.proofs.near.is_near_name.Statement.{statement}
-use Rattle.faults.proofs.near.is_near_name.Tie as tie
+use Rattle.faults.proofs.near.apart_name.Statement.{statement}
+use Rattle.faults.proofs.near.apart_name.Tie as tie
 
 mul-start : tie.Need-mul-start
 mul-start c = search needs
@@ -25,35 +25,35 @@ mul-end-2 c = search needs
 shared-slice-read-end : tie.Need-shared-slice-read-end
 shared-slice-read-end c = search needs
 
-sub-is-near : tie.Need-sub-is-near
-sub-is-near c =
+sub-apart : tie.Need-sub-apart
+sub-apart c =
     let start = c .before .before .before .before .before in
     let o = start .pre .0 .order _ (start .pre .1) in
     let i = start .pre .0 .inside _ (start .pre .1) in
     search needs
 
-part-is-near-start : tie.Need-part-is-near-start
-part-is-near-start c =
+part-apart-start : tie.Need-part-apart-start
+part-apart-start c =
     let start = c .before .before .before .before .before in
     let o = start .pre .0 .order _ (start .pre .1) in
     let i = start .pre .0 .inside _ (start .pre .1) in
     search needs
 
-part-is-near-end : tie.Need-part-is-near-end
-part-is-near-end c =
+part-apart-end : tie.Need-part-apart-end
+part-apart-end c =
     let start = c .before .before .before .before .before in
     let o = start .pre .0 .order _ (start .pre .1) in
     let i = start .pre .0 .inside _ (start .pre .1) in
     search needs
 
-is-near-requires : tie.Need-is-near-requires
-is-near-requires c κs = search needs
+apart-requires : tie.Need-apart-requires
+apart-requires c κs = search needs
 
 returns : tie.Need-returns
 returns c = search needs
 
-pub is-near-name-spec : {M : Type 1} → statement M
-is-near-name-spec =
+pub apart-name-spec : {M : Type 1} → statement M
+apart-name-spec =
     tie.close
     (tie.spec
     mul-start
@@ -63,8 +63,8 @@ is-near-name-spec =
     add-end
     mul-end-2
     shared-slice-read-end
-    sub-is-near
-    part-is-near-start
-    part-is-near-end
-    is-near-requires
+    sub-apart
+    part-apart-start
+    part-apart-end
+    apart-requires
     returns)
