@@ -1,2 +1,2 @@
-// Each line of a text: its faults, and what it says of the start and the goal.
+// Each line of a text: its faults.
 pub mod line;

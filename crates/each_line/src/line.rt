@@ -1,136 +1,57 @@
-// The lines of a text, one by one: what is wrong with each, and what it says of the start and the goal.
-ghost use mathlib.Core.Path.{_≡_};
-ghost use Prim.Native.Nat.{_≤_, _<_};
+// The lines of a text, one by one: what is wrong with each.
+ghost use Prim.Native.Nat.{_≤_};
 ghost use lib.ListN.{length};
 ghost use Rattle.lines.specs.Names.{Lie};
-ghost use Rattle.phrases.specs.Tables.{Tables, Kept, Keeping};
+ghost use Rattle.phrases.specs.Tables.{Tables};
 use faults::fault::Seen;
 use faults::fault::say_no_key;
 use faults::fault::say_word;
+use goal_lines::clause::clause_line;
+use goal_lines::row::row_line;
 use lines::names::find;
 use lines::word::is_same;
 use lines::word::next_line;
 use lines::word::next_word;
-use phrases::line::check_known;
-use phrases::line::check_list;
-use phrases::line::check_name;
-use phrases::line::clause_line;
-use phrases::line::expect_end;
-use phrases::line::fact_line;
-use phrases::line::final_word;
-use phrases::line::first_line;
-use phrases::line::is_key;
-use phrases::line::row_end;
-use phrases::line::start_line;
-use phrases::row::Row;
-use phrases::row::read_facts;
+use phrases::list::check_known;
+use phrases::list::check_list;
+use phrases::list::expect_end;
+use phrases::name::check_names;
+use phrases::name::is_listed;
+use phrases::start::final_line;
+use phrases::start::first_line;
+use phrases::start::start_line;
 
-// The names that a line lists after its key.
-fn check_names(
+// A line whose first word before the colon is no key: a row of a goal's table, if it is a goal state.
+fn other_line(
     out: &mut [u8],
     seen: Seen,
     line: u32,
-    full: &[u8],
+    key: &[u8],
     text: &[u8],
-    at: usize,
-    spans: &[usize],
-    n: usize,
-) -> Seen
-    requires { ⌜ Lie (now text) (now spans) n ⌝ }
-    requires { ⌜ at ≤ length (now text) ⌝ }
-{
-    let mut now = seen;
-    let mut i = at;
-    while i < text.len() {
-        let w = next_word(text, i);
-        let start = w.start;
-        let end = w.end;
-        if start == end {
-            return now;
-        }
-        now = check_name(out, now, line, full, text, start, end, spans, n);
-        i = end;
-    }
-    now
-}
-
-// The final goal states.
-fn final_line(
-    out: &mut [u8],
-    marks: &mut [u8],
-    seen: Seen,
-    line: u32,
-    text: &[u8],
-    at: usize,
-    goals: &[usize],
-    g: usize,
-) -> Seen
-    requires { ⌜ (Lie (now text) (now goals) g) × (g ≤ 32) × (length (now marks) ≡ 32) ⌝ }
-    requires { ⌜ at ≤ length (now text) ⌝ }
-    ensures { λ _. ⌜ length (now (marks .exit)) ≡ length (now (marks .entry)) ⌝ }
-{
-    let mut now = seen;
-    let mut i = at;
-    while i < text.len() {
-        let w = next_word(text, i);
-        let start = w.start;
-        let end = w.end;
-        if start == end {
-            return now;
-        }
-        now = final_word(out, marks, now, line, text, start, end, goals, g);
-        i = end;
-    }
-    now
-}
-
-// A row of a goal's table.
-fn row_line(
-    out: &mut [u8],
-    next: &mut [u8],
-    seen: Seen,
-    line: u32,
-    text: &[u8],
-    start: usize,
-    end: usize,
     at: usize,
     facts: &[usize],
     f: usize,
     goals: &[usize],
     g: usize,
 ) -> Seen
-    requires { ⌜ (Lie (now text) (now facts) f) × (f ≤ 6) ⌝ }
-    requires { ⌜ (Lie (now text) (now goals) g) × (g ≤ 32) × (length (now next) ≡ 2048) ⌝ }
-    requires { ⌜ (start ≤ end) × (end ≤ length (now text)) × (at ≤ length (now text)) ⌝ }
-    ensures { λ _. ⌜ length (now (next .exit)) ≡ length (now (next .entry)) ⌝ }
+    requires { ⌜ (Lie (now text) (now facts) f) × (Lie (now text) (now goals) g) ⌝ }
+    requires { ⌜ at ≤ length (now text) ⌝ }
 {
-    let q = find(text, goals, g, &text[start..end]);
-    if g <= q {
-        return say_no_key(out, seen, line, &text[start..end], text, goals, g);
+    if g <= find(text, goals, g, key) {
+        return say_no_key(out, seen, line, key, text, goals, g);
     }
     let mut now = seen;
     now.has_row = true;
-    let row = Row {
-        want: 0,
-        ban: 0,
-        due: true,
-        not: false,
-        ended: false,
-        seen: now,
-    };
-    let read = read_facts(out, row, line, text, at, facts, f);
-    let whole = read.row;
-    let end = read.end;
-    row_end(out, next, whole, line, text, end, goals, g, q)
+    row_line(out, now, line, text, at, facts, f, goals, g)
 }
 
-// A line with a key and a colon that lists names, or starts the job.
-fn named_line(
+// A line with a key that lists names.
+fn list_line(
     out: &mut [u8],
     seen: Seen,
     line: u32,
-    text: &[u8],
     key: &[u8],
+    text: &[u8],
     at: usize,
     states: &[usize],
     s: usize,
@@ -153,28 +74,49 @@ fn named_line(
     if is_same(key, b"facts") {
         return check_names(out, seen, line, b"of 6 facts, ", text, at, facts, f);
     }
-    if is_same(key, b"goal-states") {
-        return check_names(out, seen, line, b"of 32 goal states, ", text, at, goals, g);
-    }
+    check_names(out, seen, line, b"of 32 goal states, ", text, at, goals, g)
+}
+
+// A line with a colon whose key lists no names: the start, where the goal starts and is met, the goal's heading, or a row.
+fn aim_line(
+    out: &mut [u8],
+    seen: Seen,
+    line: u32,
+    key: &[u8],
+    text: &[u8],
+    at: usize,
+    states: &[usize],
+    s: usize,
+    facts: &[usize],
+    f: usize,
+    goals: &[usize],
+    g: usize,
+) -> Seen
+    requires { ⌜ (Lie (now text) (now states) s) × (Lie (now text) (now facts) f) × (Lie (now text) (now goals) g) ⌝ }
+    requires { ⌜ at ≤ length (now text) ⌝ }
+{
     if is_same(key, b"start") {
         return start_line(out, seen, line, text, at, states, s);
     }
     if is_same(key, b"first") {
         return first_line(out, seen, line, text, at, goals, g);
     }
-    expect_end(out, seen, line, text, at)
+    if is_same(key, b"final") {
+        return final_line(out, seen, line, text, at, goals, g);
+    }
+    if is_same(key, b"goal") {
+        return expect_end(out, seen, line, text, at);
+    }
+    other_line(out, seen, line, key, text, at, facts, f, goals, g)
 }
 
 // A line with a key and a colon.
 fn key_line(
     out: &mut [u8],
-    next: &mut [u8],
-    marks: &mut [u8],
     seen: Seen,
     line: u32,
+    key: &[u8],
     text: &[u8],
-    start: usize,
-    end: usize,
     at: usize,
     states: &[usize],
     s: usize,
@@ -186,17 +128,15 @@ fn key_line(
     g: usize,
 ) -> Seen
     requires { ⌜ Tables (now text) (now states) s (now actions) a (now facts) f (now goals) g ⌝ }
-    requires { ⌜ (length (now next) ≡ 2048) × (length (now marks) ≡ 32) ⌝ }
-    requires { ⌜ (start ≤ end) × (end ≤ length (now text)) × (at ≤ length (now text)) ⌝ }
-    ensures { λ _. ⌜ (length (now (next .exit)) ≡ length (now (next .entry))) × (length (now (marks .exit)) ≡ length (now (marks .entry))) ⌝ }
+    requires { ⌜ at ≤ length (now text) ⌝ }
 {
-    if is_key(&text[start..end]) {
-        return named_line(
+    if is_listed(b"states actions facts goal-states", key) {
+        return list_line(
             out,
             seen,
             line,
+            key,
             text,
-            &text[start..end],
             at,
             states,
             s,
@@ -208,18 +148,15 @@ fn key_line(
             g,
         );
     }
-    if is_same(&text[start..end], b"final") {
-        return final_line(out, marks, seen, line, text, at, goals, g);
-    }
-    row_line(
+    aim_line(
         out,
-        next,
         seen,
         line,
+        key,
         text,
-        start,
-        end,
         at,
+        states,
+        s,
         facts,
         f,
         goals,
@@ -227,16 +164,53 @@ fn key_line(
     )
 }
 
+// A line that says facts of a state, from after the word "is" on.
+fn fact_line(
+    out: &mut [u8],
+    seen: Seen,
+    line: u32,
+    one: &[u8],
+    text: &[u8],
+    at: usize,
+    states: &[usize],
+    s: usize,
+    facts: &[usize],
+    f: usize,
+) -> Seen
+    requires { ⌜ (Lie (now text) (now states) s) × (Lie (now text) (now facts) f) ⌝ }
+    requires { ⌜ at ≤ length (now text) ⌝ }
+{
+    let now = check_known(out, seen, line, b"state", b"", one, text, states, s);
+    check_list(out, now, line, b"fact", b"busy", b",", text, at, facts, f)
+}
+
+// The state and the action of a move.
+fn check_move(
+    out: &mut [u8],
+    seen: Seen,
+    line: u32,
+    one: &[u8],
+    two: &[u8],
+    text: &[u8],
+    states: &[usize],
+    s: usize,
+    actions: &[usize],
+    a: usize,
+) -> Seen
+    requires { ⌜ (Lie (now text) (now states) s) × (Lie (now text) (now actions) a) ⌝ }
+{
+    let now = check_known(out, seen, line, b"state", b"", one, text, states, s);
+    check_known(out, now, line, b"action", b"", two, text, actions, a)
+}
+
 // A line that says moves, from after the arrow on.
 fn move_line(
     out: &mut [u8],
     seen: Seen,
     line: u32,
+    one: &[u8],
+    two: &[u8],
     text: &[u8],
-    start: usize,
-    end: usize,
-    from: usize,
-    to: usize,
     at: usize,
     states: &[usize],
     s: usize,
@@ -244,25 +218,21 @@ fn move_line(
     a: usize,
 ) -> Seen
     requires { ⌜ (Lie (now text) (now states) s) × (Lie (now text) (now actions) a) ⌝ }
-    requires { ⌜ (start ≤ end) × (end ≤ length (now text)) × (at ≤ length (now text)) ⌝ }
-    requires { ⌜ (from ≤ to) × (to ≤ length (now text)) ⌝ }
+    requires { ⌜ at ≤ length (now text) ⌝ }
 {
-    let now = check_known(out, seen, line, b"state", b"", text, start, end, states, s);
-    let now = check_known(out, now, line, b"action", b"", text, from, to, actions, a);
+    let now = check_move(out, seen, line, one, two, text, states, s, actions, a);
     check_list(out, now, line, b"state", b"", b"|", text, at, states, s)
 }
 
 // A line that has no colon and no "is" after its first word: a move or a clause.
 fn plain_line(
     out: &mut [u8],
-    slip: &mut [u8],
     seen: Seen,
     line: u32,
+    one: &[u8],
+    two: &[u8],
     text: &[u8],
-    start: usize,
-    end: usize,
-    from: usize,
-    to: usize,
+    at: usize,
     states: &[usize],
     s: usize,
     actions: &[usize],
@@ -270,53 +240,80 @@ fn plain_line(
     facts: &[usize],
     f: usize,
 ) -> Seen
-    requires { ⌜ (Lie (now text) (now states) s) × (Lie (now text) (now actions) a) ⌝ }
-    requires { ⌜ (Lie (now text) (now facts) f) × (f ≤ 6) × (length (now slip) ≡ 9) ⌝ }
-    requires { ⌜ (start ≤ end) × (end ≤ length (now text)) × (from ≤ to) × (to ≤ length (now text)) ⌝ }
-    ensures { λ _. ⌜ length (now (slip .exit)) ≡ length (now (slip .entry)) ⌝ }
+    requires { ⌜ (Lie (now text) (now states) s) × (Lie (now text) (now actions) a) × (Lie (now text) (now facts) f) ⌝ }
+    requires { ⌜ at ≤ length (now text) ⌝ }
 {
-    let w = next_word(text, to);
-    let start3 = w.start;
-    let end3 = w.end;
-    if is_same(&text[start3..end3], b"->") {
-        return move_line(
+    let w = next_word(text, at);
+    let start = w.start;
+    let end = w.end;
+    if is_same(&text[start..end], b"->") {
+        return move_line(out, seen, line, one, two, text, end, states, s, actions, a);
+    }
+    clause_line(out, seen, line, one, two, text, at, states, s, facts, f)
+}
+
+// A line of two words or more, by these.
+fn line_of(
+    out: &mut [u8],
+    seen: Seen,
+    line: u32,
+    one: &[u8],
+    two: &[u8],
+    text: &[u8],
+    at: usize,
+    states: &[usize],
+    s: usize,
+    actions: &[usize],
+    a: usize,
+    facts: &[usize],
+    f: usize,
+    goals: &[usize],
+    g: usize,
+) -> Seen
+    requires { ⌜ Tables (now text) (now states) s (now actions) a (now facts) f (now goals) g ⌝ }
+    requires { ⌜ at ≤ length (now text) ⌝ }
+{
+    if is_same(two, b":") {
+        return key_line(
             out,
             seen,
             line,
+            one,
             text,
-            start,
-            end,
-            from,
-            to,
-            end3,
+            at,
             states,
             s,
             actions,
             a,
+            facts,
+            f,
+            goals,
+            g,
         );
     }
-    clause_line(
+    if is_same(two, b"is") {
+        return fact_line(out, seen, line, one, text, at, states, s, facts, f);
+    }
+    plain_line(
         out,
-        slip,
         seen,
         line,
+        one,
+        two,
         text,
-        &text[start..end],
-        &text[from..to],
-        to,
+        at,
         states,
         s,
+        actions,
+        a,
         facts,
         f,
     )
 }
 
-// A line, by its first two words.
+// A line of a text.
 fn check_line(
     out: &mut [u8],
-    slip: &mut [u8],
-    next: &mut [u8],
-    marks: &mut [u8],
     seen: Seen,
     line: u32,
     text: &[u8],
@@ -331,62 +328,28 @@ fn check_line(
     g: usize,
 ) -> Seen
     requires { ⌜ Tables (now text) (now states) s (now actions) a (now facts) f (now goals) g ⌝ }
-    requires { ⌜ Kept (now slip) (now next) (now marks) ⌝ }
     requires { ⌜ at ≤ length (now text) ⌝ }
-    ensures { λ _. ⌜ Keeping (now (slip .entry)) (now (next .entry)) (now (marks .entry)) (now (slip .exit)) (now (next .exit)) (now (marks .exit)) ⌝ }
 {
-    let one = next_word(text, at);
-    let start = one.start;
-    let end = one.end;
+    let w = next_word(text, at);
+    let start = w.start;
+    let end = w.end;
     if start == end {
         return seen;
     }
-    let two = next_word(text, end);
-    let from = two.start;
-    let to = two.end;
+    let one = &text[start..end];
+    let v = next_word(text, end);
+    let from = v.start;
+    let to = v.end;
     if from == to {
-        return say_word(
-            out,
-            seen,
-            line,
-            b"expected more after ",
-            &text[start..end],
-            b"",
-        );
+        return say_word(out, seen, line, b"expected more after ", one, b"");
     }
-    if is_same(&text[from..to], b":") {
-        return key_line(
-            out,
-            next,
-            marks,
-            seen,
-            line,
-            text,
-            start,
-            end,
-            to,
-            states,
-            s,
-            actions,
-            a,
-            facts,
-            f,
-            goals,
-            g,
-        );
-    }
-    if is_same(&text[from..to], b"is") {
-        return fact_line(out, seen, line, text, start, end, to, states, s, facts, f);
-    }
-    plain_line(
+    line_of(
         out,
-        slip,
         seen,
         line,
+        one,
+        &text[from..to],
         text,
-        start,
-        end,
-        from,
         to,
         states,
         s,
@@ -394,6 +357,8 @@ fn check_line(
         a,
         facts,
         f,
+        goals,
+        g,
     )
 }
 
@@ -408,9 +373,6 @@ fn following(line: u32) -> u32 {
 // Every line of a text.
 pub fn check_lines(
     out: &mut [u8],
-    slip: &mut [u8],
-    next: &mut [u8],
-    marks: &mut [u8],
     seen: Seen,
     text: &[u8],
     states: &[usize],
@@ -423,8 +385,6 @@ pub fn check_lines(
     g: usize,
 ) -> Seen
     requires { ⌜ Tables (now text) (now states) s (now actions) a (now facts) f (now goals) g ⌝ }
-    requires { ⌜ Kept (now slip) (now next) (now marks) ⌝ }
-    ensures { λ _. ⌜ Keeping (now (slip .entry)) (now (next .entry)) (now (marks .entry)) (now (slip .exit)) (now (next .exit)) (now (marks .exit)) ⌝ }
 {
     let mut now = seen;
     let mut line: u32 = 1;
@@ -432,9 +392,6 @@ pub fn check_lines(
     while at <= text.len() {
         now = check_line(
             out,
-            slip,
-            next,
-            marks,
             now,
             line,
             text,

@@ -1,3 +1,3 @@
-// A job laid out in bytes from what a text says: the body of its goal, and the whole.
-pub mod goal;
+// What a text lacks as a whole, and a job laid out in bytes.
+pub mod lack;
 pub mod whole;

@@ -1,3 +1,4 @@
-// The parts of a text's lines, judged one by one: what is wrong with each, and what it says of the start and the goal.
-pub mod line;
-pub mod row;
+// Names in a text's lines: those that a line lists, those that it uses, and where the job and its goal start and are met.
+pub mod list;
+pub mod name;
+pub mod start;

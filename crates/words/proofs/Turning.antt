@@ -10,7 +10,7 @@ use Rattle.sets.proofs.Bits.{bit-none}
 use Rattle.rules.specs.Bytes.{byte, said}
 use Rattle.job.specs.Layout.{Fit}
 use Rattle.job.specs.declared.layout.Layout.{Layout}
-use Rattle.job.proofs.Asking.{states-said, actions-said, propositions-said}
+use Rattle.job.proofs.Asking.{states-said, actions-said, propositions-said, goals-said}
 use Rattle.text.specs.Lines.{bytes}
 use Rattle.lines.specs.Words.{lines}
 use Rattle.lines.specs.Names.{Lie, Holds, table, table-from, names}
@@ -18,7 +18,12 @@ use Rattle.lines.specs.Numbers.{has, Gains}
 use Rattle.lines.specs.Says.{some-of, says-move, says-fact, number}
 use Rattle.lines.proofs.Naming.{table-length}
 use Rattle.meant.specs.Meant.{Meant}
-use Rattle.words.specs.Turned.{Job, Answers, a-job, faulty, Sound, Sounds, sound, blamed}
+use Rattle.meant.specs.Aimed.{Aimed}
+use Rattle.aims.specs.Aims.{given}
+use Rattle.laid.specs.declared.whole.Sizes.{Sizes}
+use Rattle.words.specs.Turned.{Job, Answers, a-job, faulty}
+use Rattle.words.specs.Within.{Aims, aims, Counted, Same, Sames, same, other, Sound, Sounds, sound, blamed}
+use Rattle.words.specs.declared.goal.Aim.{Aim}
 use Rattle.words.specs.declared.turn.Turned.{Turned}
 
 -- ---- an empty set, and what was put to it
@@ -40,17 +45,16 @@ gains-both {g = g} h x j = x .members j ∙ ap (λ (y : Bool). g j || y) (h j)
 
 -- ---- what a job that is sound for these sets says
 
-module _ {states actions facts : List (List ℕ)} {t labels moves : List ℕ}
+module _ {states actions facts goals : List (List ℕ)} {t labels moves : List ℕ}
     (em : (j : ℕ) → has moves j ≡ some-of (says-move states actions j) (lines t))
     (el : (j : ℕ) → has labels j ≡ (some-of (says-fact states (bytes "busy" ∷ []) 7 j) (lines t) || some-of (says-fact states facts 0 j) (lines t))) where
-  job-said : {s a f : ℕ} {b : List ℕ} → length states ≡ s → length actions ≡ a → length facts ≡ f → Sound s a f labels moves b
-      → Job states actions facts t b
-  job-said {b = b} es ea ef x =
+  job-said : {a : ℕ} {b : List ℕ} → length actions ≡ a → Sound states a facts goals t labels moves b → Job states actions facts goals t b
+  job-said {b = b} ea x =
       record {
         keeps = x .meant .keeps;
-        all-states = x .of-states ∙ sym es;
+        all-states = x .of-states;
         all-actions = x .of-actions ∙ sym ea;
-        all-facts = x .of-facts ∙ sym ef;
+        all-facts = x .of-facts;
         moves = λ s a u hs ha hu. x .meant .recorded-said s a u hs ha hu ∙ em (number s a u);
         labels = λ s i hs hi.
             let ed : (8 * s + i) / 8 ≡ s = omega arith in
@@ -58,24 +62,50 @@ module _ {states actions facts : List (List ℕ)} {t labels moves : List ℕ}
             ap (λ (y : ℕ). bit y i) (x .meant .labels-made s hs)
             ∙ (ap (λ (k : ℕ). bit (getD labels k 0) i) (sym ed)
             ∙ (ap (λ (k : ℕ). bit (getD labels ((8 * s + i) / 8) 0) k) (sym er) ∙ el (8 * s + i)));
+        start = x .of-start;
+        goal = x .of-goal;
       }
 
-  turned : {s a f : ℕ} {out : List ℕ} {r : Turned} → length states ≡ s → length actions ≡ a → length facts ≡ f
-      → Sounds s a f labels moves out r → Answers states actions facts t out r
-  turned es ea ef (sound h x) = a-job h (job-said es ea ef x)
-  turned es ea ef blamed = faulty
+  turned : {a : ℕ} {out : List ℕ} {r : Turned} → length actions ≡ a → Sounds states a facts goals t labels moves out r
+      → Answers states actions facts goals t out r
+  turned ea (sound h x) = a-job h (job-said ea x)
+  turned ea blamed = faulty
 
 -- ---- a job that was read, and is the one that was meant
 
-pub sound-job : {b labels moves : List ℕ} {l : Layout} {s a f : ℕ} → Fit b l → (l .states ≡ s) × (l .actions ≡ a) × (l .propositions ≡ f)
-    → Meant b labels moves → Sound s a f labels moves b
-sound-job fit e m =
+pub same-job : {b labels moves body : List ℕ} {l : Layout} {z : Sizes} → Fit b l → Counted l z → said b .first ≡ z .start
+    → Aimed b body (z .goal) (z .first) → Meant b labels moves → Same z labels moves body b
+same-job fit e start goal m =
     record {
       meant = m;
-      of-states = sym (states-said fit) ∙ e .0;
-      of-actions = sym (actions-said fit) ∙ e .1;
-      of-facts = sym (propositions-said fit) ∙ e .2;
+      of-states = sym (states-said fit) ∙ e .states-counted;
+      of-actions = sym (actions-said fit) ∙ e .actions-counted;
+      of-facts = sym (propositions-said fit) ∙ e .facts-counted;
+      of-goals = sym (goals-said fit) ∙ e .goals-counted;
+      of-start = start;
+      of-goal = goal;
     }
+
+-- a job with the numbers, labels, moves and Goal body of a text has its start and its goal
+pub sounds-same : (t states : List ℕ) (s : ℕ) (facts : List ℕ) {goals : List (List ℕ)} {z : Sizes} {labels moves body out : List ℕ} {w : Aim} {r : Turned}
+    → Aims (table t facts (z .facts)) goals t (z .facts) body w → w ≡ Aim.Body (z .goal) (z .goals) (z .first)
+    → z .states ≡ s → z .start ≡ given (bytes "start") (table t states s) (lines t) → Sames z labels moves body out r
+    → Sounds (table t states s) (z .actions) (table t facts (z .facts)) goals t labels moves out r
+sounds-same t states s facts {goals} {z} {body = body} x e es eb y = go (subst (Aims (table t facts (z .facts)) goals t (z .facts) body) e x) y
+  where
+    go : {labels moves out : List ℕ} {r : Turned} → Aims (table t facts (z .facts)) goals t (z .facts) body (Aim.Body (z .goal) (z .goals) (z .first))
+        → Sames z labels moves body out r → Sounds (table t states s) (z .actions) (table t facts (z .facts)) goals t labels moves out r
+    go (aims f) (same h q) =
+        sound h
+        record {
+          meant = q .meant;
+          of-states = q .of-states ∙ (es ∙ sym (table-length t states 0 s));
+          of-actions = q .of-actions;
+          of-facts = q .of-facts ∙ sym (table-length t facts 0 (z .facts));
+          of-start = q .of-start ∙ eb;
+          of-goal = f _ (q .of-facts) (q .of-goals) (q .of-goal);
+        }
+    go (aims f) other = blamed
 
 -- ---- the word busy as a table of one name
 
@@ -102,19 +132,22 @@ busy-table = refl
 
 -- ---- from what was gathered to what the lines say
 
-pub turned-named : (t states : List ℕ) (s : ℕ) (actions : List ℕ) (a : ℕ) (facts : List ℕ) (f : ℕ) {first labels moves out : List ℕ} {r : Turned}
+pub turned-named : (t states : List ℕ) (s : ℕ) (actions : List ℕ) (a : ℕ) (facts : List ℕ) (f : ℕ) {goals : List (List ℕ)}
+    {first labels moves out : List ℕ} {r : Turned}
     → Gains (replicate 512 0) first (λ j. some-of (says-fact (table t states s) (table t facts f) 0 j) (lines t))
     → Gains first labels (λ j. some-of (says-fact (table t states s) (table busy-text busy-spans 1) 7 j) (lines t))
     → Gains (replicate 524288 0) moves (λ j. some-of (says-move (table t states s) (table t actions a) j) (lines t))
-    → Sounds s a f labels moves out r → Answers (table t states s) (table t actions a) (table t facts f) t out r
-turned-named t states s actions a facts f {first} {labels} {moves} g h m x =
-    turned (gains-all 524288 m) said-labels (table-length t states 0 s) (table-length t actions 0 a) (table-length t facts 0 f) x
+    → Sounds (table t states s) a (table t facts f) goals t labels moves out r
+    → Answers (table t states s) (table t actions a) (table t facts f) goals t out r
+turned-named t states s actions a facts f {first = first} {labels} {moves} g h m x =
+    turned (gains-all 524288 m) said-labels (table-length t actions 0 a) x
   where
     said-labels : (j : ℕ) → has labels j
         ≡ (some-of (says-fact (table t states s) (bytes "busy" ∷ []) 7 j) (lines t) || some-of (says-fact (table t states s) (table t facts f) 0 j) (lines t))
     said-labels j =
         gains-both (gains-all 512 g) h j
-        ∙ ap (λ (ns : List (List ℕ)). some-of (says-fact (table t states s) ns 7 j) (lines t) || some-of (says-fact (table t states s) (table t facts f) 0 j) (lines t)) busy-table
+        ∙ ap (λ (ns : List (List ℕ)). some-of (says-fact (table t states s) ns 7 j) (lines t)
+        || some-of (says-fact (table t states s) (table t facts f) 0 j) (lines t)) busy-table
 
 -- ---- the names of a table are those that the text lists
 
@@ -128,8 +161,9 @@ few room k {after = after} {n = n} e h =
     let q : length after ≡ room = h .as-long ∙ length-replicate {A = ℕ} room 0 in
     omega arith
 
-pub answered : {t out : List ℕ} {r : Turned} {s s′ a a′ f f′ : List (List ℕ)} → s ≡ s′ → a ≡ a′ → f ≡ f′
-    → Answers s a f t out r → Answers s′ a′ f′ t out r
-answered {t} {out} {r} {s} {s′} {a} {a′} {f} {f′} es ea ef x =
-    subst (λ (y : List (List ℕ)). Answers y a′ f′ t out r) es
-    (subst (λ (y : List (List ℕ)). Answers s y f′ t out r) ea (subst (λ (y : List (List ℕ)). Answers s a y t out r) ef x))
+pub answered : {t out : List ℕ} {r : Turned} {s s′ a a′ f f′ g g′ : List (List ℕ)} → s ≡ s′ → a ≡ a′ → f ≡ f′ → g ≡ g′
+    → Answers s a f g t out r → Answers s′ a′ f′ g′ t out r
+answered {t} {out} {r} {s} {s′} {a} {a′} {f} {f′} {g} {g′} es ea ef eg x =
+    subst (λ (y : List (List ℕ)). Answers y a′ f′ g′ t out r) es
+    (subst (λ (y : List (List ℕ)). Answers s y f′ g′ t out r) ea
+    (subst (λ (y : List (List ℕ)). Answers s a y g′ t out r) ef (subst (λ (y : List (List ℕ)). Answers s a f y t out r) eg x)))

@@ -1,2 +1,3 @@
 -- What the promises of words are said with.
 pub mod Turned
+pub mod Within

@@ -1,4 +1,5 @@
--- What a job that was written from a text promises: it keeps the rules, its records are the moves of the text, and its labels have its facts.
+-- What a job that was written from a text promises: it keeps the rules, and its states, actions, facts, records, labels, start and goal are those
+-- that the text's lines say.
 use Prim.Native.Nat.{ℕ, _+_, _*_, _≤_, _<_}
 use mathlib.Core.Bool.{Bool, _||_}
 use mathlib.Core.List.{List, [], _∷_}
@@ -8,14 +9,18 @@ use Rattle.sets.specs.Sets.{bit}
 use Rattle.rules.specs.Job.{recorded}
 use Rattle.rules.specs.Bytes.{byte, said}
 use Rattle.rules.specs.Keeps.{Keeps}
+use Rattle.slips.specs.Writing.{clauses, slips-refusal}
+use Rattle.slips.specs.Playing.{goal-body, GoalFrom}
 use Rattle.text.specs.Lines.{bytes}
 use Rattle.lines.specs.Words.{lines}
 use Rattle.lines.specs.Names.{names}
 use Rattle.lines.specs.Says.{some-of, says-move, says-fact, number}
-use Rattle.meant.specs.Meant.{Meant}
+use Rattle.aims.specs.Aims.{given, clauses-said}
+use Rattle.rows.specs.Rows.{TableBody}
 use Rattle.words.specs.declared.turn.Turned.{Turned}
 
--- the names that a text lists: of states the first 512, of actions the first 16, of facts the first 6; a text that lists more is a faulty one
+-- the names that a text lists: of states the first 512, of actions the first 16, of facts the first 6, of goal states the first 32; a text that
+-- lists more is a faulty one
 abbrev pub state-names : List ℕ → List (List ℕ)
 state-names t = names 512 (bytes "states") t
 
@@ -25,10 +30,24 @@ action-names t = names 16 (bytes "actions") t
 abbrev pub fact-names : List ℕ → List (List ℕ)
 fact-names t = names 6 (bytes "facts") t
 
--- The job b of a text t with these names of states, actions and facts. It keeps the rules, so that no number refuses it and its records
--- ascend strictly; it has a state, an action and a fact for each name; a record is in it exactly when some line says the move; and bit i
--- of a state's label is set exactly when some line says fact i of it, or, for i = 7, that it is busy.
-pub record Job (states actions facts : List (List ℕ)) (t b : List ℕ) : Type 0 where
+abbrev pub goal-names : List ℕ → List (List ℕ)
+goal-names t = names 32 (bytes "goal-states") t
+
+-- The goal of a text t with these names of facts and goal states, in a job b. Where some line says a clause, the clauses of all lines are one to
+-- three, of facts that are listed, so that no number refuses them as slips; the Goal body is the one that is written from these slips, and the
+-- first goal state is 0. Where no line says a clause, the goal states are those that are listed, the first is the one that the text gives, and
+-- the Goal body is the table that the lines say.
+pub data Goal (facts goals : List (List ℕ)) (t b : List ℕ) : Type 0 where
+  by-clauses : (clauses-said facts (lines t) ≡ [] → ⊥) → slips-refusal (clauses-said facts (lines t)) (said b .propositions) 2080 ≡ 0
+      → GoalFrom (clauses (clauses-said facts (lines t))) b → Goal facts goals t b
+  by-table : clauses-said facts (lines t) ≡ [] → said b .goals ≡ length goals → said b .first-goal ≡ given (bytes "first") goals (lines t)
+      → TableBody facts goals (lines t) (said b .propositions) (goal-body b) → Goal facts goals t b
+
+-- The job b of a text t with these names of states, actions, facts and goal states. It keeps the rules, so that no number refuses it and its
+-- records ascend strictly; it has a state, an action and a fact for each name; a record is in it exactly when some line says the move; bit i of a
+-- state's label is set exactly when some line says fact i of it, or, for i = 7, that it is busy; it starts in the state that the text gives, and
+-- its goal is the text's.
+pub record Job (states actions facts goals : List (List ℕ)) (t b : List ℕ) : Type 0 where
   pub keeps : Keeps b
   pub all-states : said b .states ≡ length states
   pub all-actions : said b .actions ≡ length actions
@@ -37,20 +56,10 @@ pub record Job (states actions facts : List (List ℕ)) (t b : List ℕ) : Type 
   pub labels : (s i : ℕ) → s < said b .states → i < 8
       → bit (byte b 1 s) i
       ≡ (some-of (says-fact states (bytes "busy" ∷ []) 7 (8 * s + i)) (lines t) || some-of (says-fact states facts 0 (8 * s + i)) (lines t))
+  pub start : said b .first ≡ given (bytes "start") states (lines t)
+  pub goal : Goal facts goals t b
 
 -- What turning answers: the first n bytes of the output are the job of the text, or it has faults, which are told.
-pub data Answers (states actions facts : List (List ℕ)) (t out : List ℕ) : Turned → Type 0 where
-  a-job : {n : ℕ} → n ≤ length out → Job states actions facts t (take n out) → Answers states actions facts t out (Turned.Job n)
-  faulty : {n : ℕ} → Answers states actions facts t out (Turned.Faults n)
-
--- ---- the same of a set of moves, of labels, and of how many states, actions and facts there are
-
-pub record Sound (s a f : ℕ) (labels moves b : List ℕ) : Type 0 where
-  pub meant : Meant b labels moves
-  pub of-states : said b .states ≡ s
-  pub of-actions : said b .actions ≡ a
-  pub of-facts : said b .propositions ≡ f
-
-pub data Sounds (s a f : ℕ) (labels moves out : List ℕ) : Turned → Type 0 where
-  sound : {n : ℕ} → n ≤ length out → Sound s a f labels moves (take n out) → Sounds s a f labels moves out (Turned.Job n)
-  blamed : {n : ℕ} → Sounds s a f labels moves out (Turned.Faults n)
+pub data Answers (states actions facts goals : List (List ℕ)) (t out : List ℕ) : Turned → Type 0 where
+  a-job : {n : ℕ} → n ≤ length out → Job states actions facts goals t (take n out) → Answers states actions facts goals t out (Turned.Job n)
+  faulty : {n : ℕ} → Answers states actions facts goals t out (Turned.Faults n)

@@ -4,9 +4,12 @@ ghost use mathlib.Core.Bool.{true};
 ghost use Prim.Native.Nat.{_≤_};
 ghost use lib.ListN.{length};
 ghost use Rattle.job.specs.Layout.{Fit};
-ghost use Rattle.lines.specs.Names.{table};
-ghost use Rattle.phrases.specs.Tables.{Tables, Kept};
-ghost use Rattle.words.specs.Turned.{Answers, Sound, Sounds, state-names, action-names, fact-names};
+ghost use Rattle.lines.specs.Names.{Lie, table};
+ghost use Rattle.rows.specs.Cells.{Named};
+ghost use Rattle.phrases.specs.Tables.{Tables};
+ghost use Rattle.words.specs.Turned.{Answers, state-names, action-names, fact-names, goal-names};
+ghost use Rattle.words.specs.Within.{Counted, Same, Sames, Sounds};
+use crate::goal::Aim;
 use faults::fault::Seen;
 use job::layout::Layout;
 use job::layout::Reading;
@@ -27,146 +30,130 @@ fn blame(told: &mut [u8]) -> usize {
     )
 }
 
-// Whether the job has so many states, actions and facts.
-fn has_counts(l: Layout, s: usize, a: usize, f: usize) -> bool
-    ensures { λ r. ⌜ (r ≡ true → ((l .states ≡ s) × (l .actions ≡ a) × (l .propositions ≡ f))) ⌝ }
+// Whether a job has so many states, actions, facts and goal states.
+fn has_counts(l: Layout, z: Sizes) -> bool
+    ensures { λ r. ⌜ (r ≡ true → Counted l z) ⌝ }
 {
-    if l.states != s {
+    if l.states != z.states {
         return false;
     }
-    if l.actions as usize != a {
+    if l.actions as usize != z.actions {
         return false;
     }
-    if l.propositions as usize != f {
+    if l.propositions as usize != z.facts {
+        return false;
+    }
+    if l.goals != z.goals {
         return false;
     }
     true
 }
 
 // Whether a job that was read is the one that was meant.
-fn is_meant(
-    job: &[u8],
-    l: Layout,
-    s: usize,
-    a: usize,
-    f: usize,
-    labels: &[u8],
-    moves: &[u8],
-) -> bool
+fn is_meant(job: &[u8], l: Layout, z: Sizes, body: &[u8], labels: &[u8], moves: &[u8]) -> bool
     requires { ⌜ Fit (now job) l ⌝ }
     requires { ⌜ (length (now labels) ≡ 512) × (length (now moves) ≡ 524288) ⌝ }
-    ensures { λ r. ⌜ (r ≡ true → Sound s a f (now (labels .entry)) (now (moves .entry)) (now (job .entry))) ⌝ }
+    ensures { λ r. ⌜ (r ≡ true → Same z (now (labels .entry)) (now (moves .entry)) (now (body .entry)) (now (job .entry))) ⌝ }
 {
-    if !has_counts(l, s, a, f) {
+    if !has_counts(l, z) {
+        return false;
+    }
+    if !meant::goal::is_start(l, z.start) {
+        return false;
+    }
+    if !meant::goal::is_goal(job, l, body, z.goal, z.first) {
         return false;
     }
     meant::is_right(job, l, labels, moves)
 }
 
 // Whether the bytes are a job, and the one that was meant.
-fn is_sound(job: &[u8], s: usize, a: usize, f: usize, labels: &[u8], moves: &[u8]) -> bool
+fn is_job(job: &[u8], z: Sizes, body: &[u8], labels: &[u8], moves: &[u8]) -> bool
     requires { ⌜ (length (now labels) ≡ 512) × (length (now moves) ≡ 524288) ⌝ }
-    ensures { λ r. ⌜ (r ≡ true → Sound s a f (now (labels .entry)) (now (moves .entry)) (now (job .entry))) ⌝ }
+    ensures { λ r. ⌜ (r ≡ true → Same z (now (labels .entry)) (now (moves .entry)) (now (body .entry)) (now (job .entry))) ⌝ }
 {
     match job::accept::read(job) {
         Reading::Refused(_) => false,
-        Reading::Job(l) => is_meant(job, l, s, a, f, labels, moves),
+        Reading::Job(l) => is_meant(job, l, z, body, labels, moves),
     }
 }
 
-// Reads the job that was written, and answers it if it is right.
+// Writes the job with these numbers; nothing where it has no room.
+fn write_job(out: &mut [u8], z: Sizes, body: &[u8], labels: &[u8], moves: &[u8]) -> usize
+    requires { ⌜ (z .states ≤ 512) × (length (now labels) ≡ 512) × (length (now moves) ≡ 524288) ⌝ }
+{
+    if 8192 < z.moves {
+        return 0;
+    }
+    if body.len() < z.goal {
+        return 0;
+    }
+    laid::whole::write(out, z, labels, moves, body)
+}
+
+// Writes a job, reads it again, and answers it if it is right.
 fn finish(
-    out: &[u8],
+    out: &mut [u8],
     told: &mut [u8],
-    n: usize,
-    s: usize,
-    a: usize,
-    f: usize,
+    z: Sizes,
+    body: &[u8],
     labels: &[u8],
     moves: &[u8],
 ) -> Turned
-    requires { ⌜ (length (now labels) ≡ 512) × (length (now moves) ≡ 524288) ⌝ }
-    ensures { λ r. ⌜ Sounds s a f (now (labels .entry)) (now (moves .entry)) (now (out .entry)) r ⌝ }
+    requires { ⌜ (z .states ≤ 512) × (length (now labels) ≡ 512) × (length (now moves) ≡ 524288) ⌝ }
+    ensures { λ r. ⌜ Sames z (now (labels .entry)) (now (moves .entry)) (now (body .entry)) (now (out .exit)) r ⌝ }
 {
+    let n = write_job(out, z, body, labels, moves);
     if out.len() < n {
         return Turned::Faults(blame(told));
     }
-    if is_sound(&out[..n], s, a, f, labels, moves) {
+    if is_job(&out[..n], z, body, labels, moves) {
         return Turned::Job(n);
     }
     Turned::Faults(blame(told))
 }
 
-// How long the goal's body is.
-fn write_goal(
-    body: &mut [u8],
-    seen: Seen,
-    slip: &[u8],
-    next: &[u8],
-    marks: &[u8],
-    f: usize,
-    g: usize,
-) -> usize
-    requires { ⌜ (Kept (now slip) (now next) (now marks)) × (f ≤ 6) × (g ≤ 32) ⌝ }
-{
-    if 0 < seen.clauses {
-        return laid::goal::write_clauses(body, slip, seen.clauses, f);
-    }
-    laid::goal::write_table(body, next, marks, g, f)
-}
-
-// How many goal states so many clauses have, or a table.
-fn goals_of(clauses: usize, g: usize) -> usize {
-    match clauses {
-        0 => g,
-        1 => 3,
-        2 => 9,
-        _ => 27,
-    }
-}
-
-// Where the goal begins: clauses begin at goal state 0.
-fn first_of(seen: Seen) -> usize {
-    if 0 < seen.clauses {
-        return 0;
-    }
-    seen.first
-}
-
-// Writes the job of a text without faults.
-fn write_job(
+// Turns a text without faults, which has n moves.
+fn turn_whole(
     out: &mut [u8],
-    seen: Seen,
-    body: &[u8],
-    goal: usize,
+    told: &mut [u8],
+    text: &[u8],
+    states: &[usize],
     s: usize,
     a: usize,
+    facts: &[usize],
     f: usize,
+    goals: &[usize],
     g: usize,
     labels: &[u8],
     moves: &[u8],
     n: usize,
-) -> usize
-    requires { ⌜ (s ≤ 512) × (length (now labels) ≡ 512) × (length (now moves) ≡ 524288) ⌝ }
+) -> Turned
+    requires { ⌜ (Lie (now text) (now states) s) × (s ≤ 512) × (Named (now text) (now facts) (now goals) f g) ⌝ }
+    requires { ⌜ (length (now labels) ≡ 512) × (length (now moves) ≡ 524288) ⌝ }
+    ensures { λ r. ⌜ Sounds (table (now (text .entry)) (now (states .entry)) s) a (table (now (text .entry)) (now (facts .entry)) f)
+        (table (now (text .entry)) (now (goals .entry)) g) (now (text .entry)) (now (labels .entry)) (now (moves .entry)) (now (out .exit)) r ⌝ }
 {
-    if 8192 < n {
-        return 0;
+    let start = aims::given(text, b"start", states, s);
+    let tall = laid::whole::is_tall(s, n);
+    let mut body = [0u8; 2080];
+    match crate::goal::write_goal(&mut body, text, facts, f, goals, g) {
+        Aim::Nothing => Turned::Faults(blame(told)),
+        Aim::Body { size, goals, first } => {
+            let z = Sizes {
+                tall,
+                states: s,
+                actions: a,
+                facts: f,
+                goals,
+                start,
+                first,
+                moves: n,
+                goal: size,
+            };
+            finish(out, told, z, &body, labels, moves)
+        }
     }
-    if body.len() < goal {
-        return 0;
-    }
-    let z = Sizes {
-        tall: laid::whole::is_tall(s, n),
-        states: s,
-        actions: a,
-        facts: f,
-        goals: goals_of(seen.clauses, g),
-        start: seen.start,
-        first: first_of(seen),
-        moves: n,
-        goal,
-    };
-    laid::whole::write(out, z, labels, moves, body)
 }
 
 // Whether a fault was told or counted.
@@ -177,36 +164,48 @@ fn is_faulty(seen: Seen) -> bool {
     0 < seen.more
 }
 
-// Tells the faults, or writes the job and reads it again.
-fn turn_whole(
-    out: &mut [u8],
+// Looks at each line of a text and at the whole for faults, where it has n moves.
+fn check(
     told: &mut [u8],
-    seen: Seen,
-    slip: &[u8],
-    next: &[u8],
-    marks: &[u8],
+    text: &[u8],
+    states: &[usize],
     s: usize,
+    actions: &[usize],
     a: usize,
+    facts: &[usize],
     f: usize,
+    goals: &[usize],
     g: usize,
-    labels: &[u8],
-    moves: &[u8],
     n: usize,
-) -> Turned
-    requires { ⌜ (Kept (now slip) (now next) (now marks)) × (f ≤ 6) × (g ≤ 32) ⌝ }
-    requires { ⌜ (s ≤ 512) × (length (now labels) ≡ 512) × (length (now moves) ≡ 524288) ⌝ }
-    ensures { λ r. ⌜ Sounds s a f (now (labels .entry)) (now (moves .entry)) (now (out .exit)) r ⌝ }
+) -> Seen
+    requires { ⌜ Tables (now text) (now states) s (now actions) a (now facts) f (now goals) g ⌝ }
 {
-    if is_faulty(seen) {
-        return Turned::Faults(faults::fault::say_more(told, seen));
-    }
-    let mut body = [0u8; 2080];
-    let goal = write_goal(&mut body, seen, slip, next, marks, f, g);
-    let k = write_job(out, seen, &body, goal, s, a, f, g, labels, moves, n);
-    finish(out, told, k, s, a, f, labels, moves)
+    let none = Seen {
+        at: 0,
+        more: 0,
+        has_start: false,
+        has_first: false,
+        has_final: false,
+        clauses: 0,
+        has_row: false,
+    };
+    let seen = each_line::line::check_lines(
+        told,
+        none,
+        text,
+        states,
+        s,
+        actions,
+        a,
+        facts,
+        f,
+        goals,
+        g,
+    );
+    laid::lack::check_whole(told, seen, s, a, g, n)
 }
 
-// The same, from what the lines say.
+// Tells the faults, or writes the job.
 fn turn_said(
     out: &mut [u8],
     told: &mut [u8],
@@ -224,50 +223,24 @@ fn turn_said(
 ) -> Turned
     requires { ⌜ Tables (now text) (now states) s (now actions) a (now facts) f (now goals) g ⌝ }
     requires { ⌜ (length (now labels) ≡ 512) × (length (now moves) ≡ 524288) ⌝ }
-    ensures { λ r. ⌜ Sounds s a f (now (labels .entry)) (now (moves .entry)) (now (out .exit)) r ⌝ }
+    ensures { λ r. ⌜ Sounds (table (now (text .entry)) (now (states .entry)) s) a (table (now (text .entry)) (now (facts .entry)) f)
+        (table (now (text .entry)) (now (goals .entry)) g) (now (text .entry)) (now (labels .entry)) (now (moves .entry)) (now (out .exit)) r ⌝ }
 {
-    let mut slip = [0u8; 9];
-    let mut next = [255u8; 2048];
-    let mut marks = [0u8; 32];
     let n = laid::whole::count(moves);
-    let none = Seen {
-        at: 0,
-        more: 0,
-        has_start: false,
-        start: 0,
-        has_first: false,
-        first: 0,
-        has_final: false,
-        clauses: 0,
-        has_row: false,
-    };
-    let lined = each_line::line::check_lines(
+    let seen = check(told, text, states, s, actions, a, facts, f, goals, g, n);
+    if is_faulty(seen) {
+        return Turned::Faults(faults::fault::say_more(told, seen));
+    }
+    turn_whole(
+        out,
         told,
-        &mut slip,
-        &mut next,
-        &mut marks,
-        none,
         text,
         states,
         s,
-        actions,
         a,
         facts,
         f,
         goals,
-        g,
-    );
-    let seen = laid::goal::check_whole(told, lined, s, a, g, n);
-    turn_whole(
-        out,
-        told,
-        seen,
-        &slip,
-        &next,
-        &marks,
-        s,
-        a,
-        f,
         g,
         labels,
         moves,
@@ -291,7 +264,7 @@ fn turn_named(
 ) -> Turned
     requires { ⌜ Tables (now text) (now states) s (now actions) a (now facts) f (now goals) g ⌝ }
     ensures { λ r. ⌜ Answers (table (now (text .entry)) (now (states .entry)) s) (table (now (text .entry)) (now (actions .entry)) a)
-        (table (now (text .entry)) (now (facts .entry)) f) (now (text .entry)) (now (out .exit)) r ⌝ }
+        (table (now (text .entry)) (now (facts .entry)) f) (table (now (text .entry)) (now (goals .entry)) g) (now (text .entry)) (now (out .exit)) r ⌝ }
 {
     let mut labels = [0u8; 512];
     lines::says::facts(&mut labels, text, states, s, text, facts, f, 0);
@@ -319,7 +292,7 @@ fn turn_named(
 // Turns a text into a job in the output, or tells its faults.
 pub fn turn(out: &mut [u8], told: &mut [u8], text: &[u8]) -> Turned
     ensures { λ r. ⌜ Answers (state-names (now (text .entry))) (action-names (now (text .entry))) (fact-names (now (text .entry)))
-        (now (text .entry)) (now (out .exit)) r ⌝ }
+        (goal-names (now (text .entry))) (now (text .entry)) (now (out .exit)) r ⌝ }
 {
     let mut states = [0usize; 1024];
     let s = lines::names::list(&mut states, text, b"states");

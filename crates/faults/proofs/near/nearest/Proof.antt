@@ -1,12 +1,8 @@
 -- `near::nearest` meets its contract.
-use Prim.Native.Nat.{ℕ, _+_, _-_, _*_, _≤_, _<_}
-use native.Mathlib.Omega.{arith}
+use Prim.Native.Nat.{_-_, _≤_}
 use borrow.Author.Needs.{needs}
 use Rattle.faults.proofs.near.nearest.Statement.{statement}
 use Rattle.faults.proofs.near.nearest.Tie as tie
-use Rattle.faults.proofs.near.nearest.Reads as reads
-use Rattle.faults.proofs.near.nearest.Lts as lts
-use Rattle.faults.proofs.near.apart_name.Reads as apart-name-reads
 
 abbrev Inv-loop : tie.InvT-loop
 Inv-loop text spans n word best₀ least₀ k₀ best least k = (best ≤ n) × (k ≤ n)

@@ -20,15 +20,11 @@ returns-3 : tie.Need-returns-3
 returns-3 c = λ e. absurd (false≢true e)
 
 returns-4 : tie.Need-returns-4
-returns-4 c = λ e. (c .before .before .before .before .if1 .left, c .before .before .if2 .left, c .if3 .left)
+returns-4 c = λ e. absurd (false≢true e)
+
+returns-5 : tie.Need-returns-5
+returns-5 c = search needs
 
 pub has-counts-spec : {M : Type 1} → statement M
 has-counts-spec =
-    tie.close
-    (tie.spec
-    returns
-    cast-if2
-    returns-2
-    cast-if3
-    returns-3
-    returns-4)
+    tie.close (tie.spec returns cast-if2 returns-2 cast-if3 returns-3 returns-4 returns-5)

@@ -1,7 +1,7 @@
 -- `turn::is_meant` meets its contract.
 use mathlib.Core.Bool.{false≢true}
 use borrow.Author.Tests.{not-false}
-use Rattle.words.proofs.Turning.{sound-job}
+use Rattle.words.proofs.Turning.{same-job}
 use borrow.Author.Needs.{needs}
 use Rattle.words.proofs.turn.is_meant.Statement.{statement}
 use Rattle.words.proofs.turn.is_meant.Tie as tie
@@ -12,11 +12,29 @@ has-counts-requires c κs = search needs
 returns : tie.Need-returns
 returns c = λ e. absurd (false≢true e)
 
-is-right-requires : tie.Need-is-right-requires
-is-right-requires c κs = c .before .before .before .before .before .pre
+is-start-requires : tie.Need-is-start-requires
+is-start-requires c κs = search needs
 
 returns-2 : tie.Need-returns-2
-returns-2 c = λ e. sound-job (c .before .before .before .before .before .before .pre .0) (c .before .before .has-counts .ensures (not-false _ (c .before .if1 .left))) (c .is-right .ensures e)
+returns-2 c = λ e. absurd (false≢true e)
+
+is-goal-requires : tie.Need-is-goal-requires
+is-goal-requires c κs = search needs
+
+returns-3 : tie.Need-returns-3
+returns-3 c = λ e. absurd (false≢true e)
+
+is-right-requires : tie.Need-is-right-requires
+is-right-requires c κs = search needs
+
+returns-4 : tie.Need-returns-4
+returns-4 c =
+    λ e.
+    let p = c .before .before .before .before .before .before .before .before .before .before .before .pre in
+    same-job (p .0) (c .before .before .before .before .before .before .has-counts .ensures (not-false _ (c .before .before .before .before .before .if1 .left)))
+    (c .before .before .before .before .is-start .ensures _ (p .0) .0 (not-false _ (c .before .before .before .if2 .left)))
+    (c .before .before .is-goal .ensures .0 (not-false _ (c .before .if3 .left)))
+    (c .is-right .ensures e)
 
 pub is-meant-spec : {M : Type 1} → statement M
 is-meant-spec =
@@ -24,5 +42,9 @@ is-meant-spec =
     (tie.spec
     has-counts-requires
     returns
+    is-start-requires
+    returns-2
+    is-goal-requires
+    returns-3
     is-right-requires
-    returns-2)
+    returns-4)

@@ -56,10 +56,13 @@ slice-aggregate-turn-named-4 c = search needs
 
 turn-named-requires : tie.Need-turn-named-requires
 turn-named-requires c κs =
-    let s = c .before .before .before .before .before .before .before .before .before .before .before .before .before .before .before .before .before .before .before .list .ensures in
-    let a = c .before .before .before .before .before .before .before .before .before .before .before .before .before .before .before .list2 .ensures in
-    let f = c .before .before .before .before .before .before .before .before .before .before .before .list3 .ensures in
-    let g = c .before .before .before .before .before .before .before .list4 .ensures in
+    let goals = c .before .before .before .before .before .before .before in
+    let facts = goals .before .before .before .before in
+    let actions = facts .before .before .before .before in
+    let s = actions .before .before .before .before .list .ensures in
+    let a = actions .list2 .ensures in
+    let f = facts .list3 .ensures in
+    let g = goals .list4 .ensures in
     record {
       of-states = s .lie;
       of-actions = a .lie;
@@ -79,7 +82,13 @@ same-length-2 c = search needs
 
 returns : tie.Need-returns
 returns c =
-    answered (held 1024 (bytes "states") (c .before .before .before .before .before .before .before .before .before .before .before .before .before .before .before .before .before .before .before .before .before .before .before .before .list .ensures)) (held 32 (bytes "actions") (c .before .before .before .before .before .before .before .before .before .before .before .before .before .before .before .before .before .before .before .before .list2 .ensures)) (held 12 (bytes "facts") (c .before .before .before .before .before .before .before .before .before .before .before .before .before .before .before .before .list3 .ensures))
+    let goals = c .before .before .before .before .before .before .before .before .before .before .before .before in
+    let facts = goals .before .before .before .before in
+    let actions = facts .before .before .before .before in
+    let states = actions .before .before .before .before in
+    answered (held 1024 (bytes "states") (states .list .ensures)) (held 32 (bytes "actions") (actions .list2 .ensures))
+    (held 12 (bytes "facts") (facts .list3 .ensures))
+    (held 64 (bytes "goal-states") (goals .list4 .ensures))
     (c .before .before .before .before .turn-named .ensures)
 
 pub turn-spec : {M : Type 1} → statement M

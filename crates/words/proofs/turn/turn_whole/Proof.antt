@@ -1,37 +1,46 @@
 -- `turn::turn_whole` meets its contract.
-use Rattle.words.specs.Turned.{blamed}
+use mathlib.Core.Path.{refl}
+use Rattle.words.specs.Within.{blamed}
+use Rattle.words.proofs.Turning.{sounds-same}
 use borrow.Author.Needs.{needs}
 use Rattle.words.proofs.turn.turn_whole.Statement.{statement}
 use Rattle.words.proofs.turn.turn_whole.Tie as tie
 
-is-faulty-requires : tie.Need-is-faulty-requires
-is-faulty-requires c κs = search needs
+slice-aggregate-given : tie.Need-slice-aggregate-given
+slice-aggregate-given c = search needs
 
-say-more-requires : tie.Need-say-more-requires
-say-more-requires c κs = search needs
+given-requires : tie.Need-given-requires
+given-requires c κs = search needs
+
+is-tall-requires : tie.Need-is-tall-requires
+is-tall-requires c κs = search needs
+
+slice-aggregate-write-goal : tie.Need-slice-aggregate-write-goal
+slice-aggregate-write-goal c = search needs
+
+write-goal-requires : tie.Need-write-goal-requires
+write-goal-requires c κs = search needs
+
+enum-told : tie.Need-enum-told
+enum-told c = search needs
+
+blame-requires : tie.Need-blame-requires
+blame-requires c κs = search needs
+
+enum-known-size : tie.Need-enum-known-size
+enum-known-size c = search needs
+
+slice-aggregate-finish : tie.Need-slice-aggregate-finish
+slice-aggregate-finish c = search needs
+
+finish-requires : tie.Need-finish-requires
+finish-requires c κs = search needs
 
 same-length : tie.Need-same-length
 same-length c = search needs
 
 returns : tie.Need-returns
 returns c = blamed
-
-slice-aggregate-write-goal : tie.Need-slice-aggregate-write-goal
-slice-aggregate-write-goal c = search needs
-
-write-goal-requires : tie.Need-write-goal-requires
-write-goal-requires c κs = c .before .before .before .before .before .before .before .before .before .before .pre .0
-
-slice-aggregate-write-job : tie.Need-slice-aggregate-write-job
-slice-aggregate-write-job c = search needs
-
-write-job-requires : tie.Need-write-job-requires
-write-job-requires c κs = c .before .before .before .before .before .before .before .before .before .before .before .before .before .before .pre .1
-
-finish-requires : tie.Need-finish-requires
-finish-requires c κs =
-    let p = c .before .before .before .before .before .before .before .before .before .before .before .before .before .before .before .before .before .before .before .pre .1 in
-    (p .1, p .2)
 
 same-length-2 : tie.Need-same-length-2
 same-length-2 c = search needs
@@ -40,21 +49,32 @@ same-length-3 : tie.Need-same-length-3
 same-length-3 c = search needs
 
 returns-2 : tie.Need-returns-2
-returns-2 c = c .before .before .finish .ensures
+returns-2 c =
+    let finished = c .before .before .before .before in
+    let sized = finished .before .before .before .before .before in
+    let aimed = sized .before .before .before in
+    let started = aimed .before .before .before in
+    let x = started .before .before .before .before .before .before .before .before .before .before .args in
+    sounds-same (x .text .now) (x .states .now) (x .s) (x .facts .now) (aimed .write-goal .ensures) (sized .size .given .1) refl
+    (started .given .ensures)
+    (finished .finish .ensures)
 
 pub turn-whole-spec : {M : Type 1} → statement M
 turn-whole-spec =
     tie.close
     (tie.spec
-    is-faulty-requires
-    say-more-requires
-    same-length
-    returns
+    slice-aggregate-given
+    given-requires
+    is-tall-requires
     slice-aggregate-write-goal
     write-goal-requires
-    slice-aggregate-write-job
-    write-job-requires
+    enum-told
+    blame-requires
+    enum-known-size
+    slice-aggregate-finish
     finish-requires
+    same-length
+    returns
     same-length-2
     same-length-3
     returns-2)
