@@ -3,17 +3,33 @@ ghost use mathlib.Core.Path.{_≡_};
 ghost use Prim.Native.Nat.{_*_, _≤_, _<_};
 ghost use lib.ListN.{length};
 
-// How many moves the set has, counted up to one more than a job may have.
+// How many moves there are with those of byte k of the set, counted up to one more than a job may have.
+fn count_byte(moves: &[u8], k: usize, n: usize) -> usize
+    requires { ⌜ (length (now moves) ≡ 524288) × (k < 524288) ⌝ }
+{
+    let end = 8 * k + 8;
+    let mut r = n;
+    let mut i = 8 * k;
+    while i < end {
+        if lines::numbers::has(moves, i) {
+            r = one_more(r);
+        }
+        i += 1;
+    }
+    r
+}
+
+// How many moves the set has, counted up to one more than a job may have. Most bytes of the set are 0, and are passed over.
 pub fn count(moves: &[u8]) -> usize
     requires { ⌜ length (now moves) ≡ 524288 ⌝ }
 {
     let mut n: usize = 0;
-    let mut i: usize = 0;
-    while i < 4194304 {
-        if lines::numbers::has(moves, i) {
-            n = one_more(n);
+    let mut k: usize = 0;
+    while k < 524288 {
+        if moves[k] != 0 {
+            n = count_byte(moves, k, n);
         }
-        i += 1;
+        k += 1;
     }
     n
 }
@@ -90,21 +106,39 @@ fn put_record(out: &mut [u8], at: usize, tall: bool, i: usize) -> usize {
     put_wide(out, at, tall, i % 512)
 }
 
-// The records of the moves, in ascending order.
-fn put_records(out: &mut [u8], at: usize, tall: bool, moves: &[u8]) -> usize
-    requires { ⌜ length (now moves) ≡ 524288 ⌝ }
+// The records of the moves of byte k of the set, in ascending order.
+fn put_byte_records(out: &mut [u8], at: usize, tall: bool, moves: &[u8], k: usize) -> usize
+    requires { ⌜ (length (now moves) ≡ 524288) × (k < 524288) ⌝ }
 {
-    let mut k = at;
-    let mut i: usize = 0;
-    while i < 4194304 {
+    let end = 8 * k + 8;
+    let mut next = at;
+    let mut i = 8 * k;
+    while i < end {
         if lines::numbers::has(moves, i) {
-            k = put_record(out, k, tall, i);
+            next = put_record(out, next, tall, i);
             i += 1;
         } else {
             i += 1;
         }
     }
-    k
+    next
+}
+
+// The records of the moves, in ascending order.
+fn put_records(out: &mut [u8], at: usize, tall: bool, moves: &[u8]) -> usize
+    requires { ⌜ length (now moves) ≡ 524288 ⌝ }
+{
+    let mut next = at;
+    let mut k: usize = 0;
+    while k < 524288 {
+        if moves[k] != 0 {
+            next = put_byte_records(out, next, tall, moves, k);
+            k += 1;
+        } else {
+            k += 1;
+        }
+    }
+    next
 }
 
 // How many bytes the records of n moves have.

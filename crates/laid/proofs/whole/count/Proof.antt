@@ -5,22 +5,22 @@ use Rattle.laid.proofs.whole.count.Statement.{statement}
 use Rattle.laid.proofs.whole.count.Tie as tie
 
 abbrev Inv-loop : tie.InvT-loop
-Inv-loop moves n₀ i₀ n i = i ≤ 4194304
+Inv-loop moves n₀ k₀ n k = k ≤ 524288
 
 abbrev μ-loop : tie.MeasureT-loop
-μ-loop moves n₀ i₀ n i = 4194304 - i
+μ-loop moves n₀ k₀ n k = 524288 - k
 
 loop-holds : tie.Need-loop-holds Inv-loop μ-loop
 loop-holds c = search needs
 
-has-requires : tie.Need-has-requires Inv-loop μ-loop
-has-requires c κs = search needs
+shared-slice-read-if1 : tie.Need-shared-slice-read-if1 Inv-loop μ-loop
+shared-slice-read-if1 c = search needs
 
-one-more-requires : tie.Need-one-more-requires Inv-loop μ-loop
-one-more-requires c κs = search needs
+count-byte-requires : tie.Need-count-byte-requires Inv-loop μ-loop
+count-byte-requires c κs = search needs
 
-add-i : tie.Need-add-i Inv-loop μ-loop
-add-i c = search needs
+add-k : tie.Need-add-k Inv-loop μ-loop
+add-k c = search needs
 
 loop-less : tie.Need-loop-less Inv-loop μ-loop
 loop-less c = search needs
@@ -38,9 +38,9 @@ count-spec =
     Inv-loop
     μ-loop
     loop-holds
-    has-requires
-    one-more-requires
-    add-i
+    shared-slice-read-if1
+    count-byte-requires
+    add-k
     loop-less
     loop-again
     returns)

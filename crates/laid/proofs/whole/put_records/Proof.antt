@@ -7,22 +7,22 @@ use Rattle.laid.proofs.whole.put_records.Statement.{statement}
 use Rattle.laid.proofs.whole.put_records.Tie as tie
 
 abbrev Inv-loop : tie.InvT-loop
-Inv-loop out₀ at tall moves k₀ i₀ out k i = (i ≤ 4194304) × (length out ≡ length out₀)
+Inv-loop out₀ at tall moves next₀ k₀ out next k = (k ≤ 524288) × (length out ≡ length out₀)
 
 abbrev μ-loop : tie.MeasureT-loop
-μ-loop out₀ at tall moves k₀ i₀ out k i = 4194304 - i
+μ-loop out₀ at tall moves next₀ k₀ out next k = 524288 - k
 
 loop-holds : tie.Need-loop-holds Inv-loop μ-loop
 loop-holds c = search needs
 
-has-requires : tie.Need-has-requires Inv-loop μ-loop
-has-requires c κs = search needs
+shared-slice-read-if1 : tie.Need-shared-slice-read-if1 Inv-loop μ-loop
+shared-slice-read-if1 c = search needs
 
-put-record-requires : tie.Need-put-record-requires Inv-loop μ-loop
-put-record-requires c κs = search needs
+put-byte-records-requires : tie.Need-put-byte-records-requires Inv-loop μ-loop
+put-byte-records-requires c κs = search needs
 
-add-i : tie.Need-add-i Inv-loop μ-loop
-add-i c = search needs
+add-k : tie.Need-add-k Inv-loop μ-loop
+add-k c = search needs
 
 loop-less : tie.Need-loop-less Inv-loop μ-loop
 loop-less c = search needs
@@ -30,8 +30,8 @@ loop-less c = search needs
 loop-again : tie.Need-loop-again Inv-loop μ-loop
 loop-again c = search needs
 
-add-i-2 : tie.Need-add-i-2 Inv-loop μ-loop
-add-i-2 c = search needs
+add-k-2 : tie.Need-add-k-2 Inv-loop μ-loop
+add-k-2 c = search needs
 
 loop-less-2 : tie.Need-loop-less-2 Inv-loop μ-loop
 loop-less-2 c = search needs
@@ -52,12 +52,12 @@ put-records-spec =
     Inv-loop
     μ-loop
     loop-holds
-    has-requires
-    put-record-requires
-    add-i
+    shared-slice-read-if1
+    put-byte-records-requires
+    add-k
     loop-less
     loop-again
-    add-i-2
+    add-k-2
     loop-less-2
     loop-again-2
     same-length
