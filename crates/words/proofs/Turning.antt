@@ -21,7 +21,7 @@ use Rattle.meant.specs.Meant.{Meant}
 use Rattle.meant.specs.Aimed.{Aimed}
 use Rattle.aims.specs.Aims.{given}
 use Rattle.laid.specs.declared.whole.Sizes.{Sizes}
-use Rattle.words.specs.Turned.{Job, Answers, a-job, faulty}
+use Rattle.words.specs.Turned.{Job, Answers, Told, a-job, faulty}
 use Rattle.words.specs.Within.{Aims, aims, Counted, Same, Sames, same, other, Sound, Sounds, sound, blamed}
 use Rattle.words.specs.declared.goal.Aim.{Aim}
 use Rattle.words.specs.declared.turn.Turned.{Turned}
@@ -87,14 +87,17 @@ same-job fit e start goal m =
     }
 
 -- a job with the numbers, labels, moves and Goal body of a text has its start and its goal
-pub sounds-same : (t states : List ℕ) (s : ℕ) (facts : List ℕ) {goals : List (List ℕ)} {z : Sizes} {labels moves body out : List ℕ} {w : Aim} {r : Turned}
-    → Aims (table t facts (z .facts)) goals t (z .facts) body w → w ≡ Aim.Body (z .goal) (z .goals) (z .first)
+pub sounds-same : (t states : List ℕ) (s : ℕ) (facts goals : List ℕ) (g : ℕ) {z : Sizes} {labels moves body out : List ℕ} {w : Aim} {r : Turned}
+    → Aims (table t facts (z .facts)) (table t goals g) t (z .facts) body w → w ≡ Aim.Body (z .goal) (z .goals) (z .first)
     → z .states ≡ s → z .start ≡ given (bytes "start") (table t states s) (lines t) → Sames z labels moves body out r
-    → Sounds (table t states s) (z .actions) (table t facts (z .facts)) goals t labels moves out r
-sounds-same t states s facts {goals} {z} {body = body} x e es eb y = go (subst (Aims (table t facts (z .facts)) goals t (z .facts) body) e x) y
+    → Sounds (table t states s) (z .actions) (table t facts (z .facts)) (table t goals g) t labels moves out r
+sounds-same t states s facts goals g {z} {body = body} x e es eb y =
+    go (subst (Aims (table t facts (z .facts)) (table t goals g) t (z .facts) body) e x) y
   where
-    go : {labels moves out : List ℕ} {r : Turned} → Aims (table t facts (z .facts)) goals t (z .facts) body (Aim.Body (z .goal) (z .goals) (z .first))
-        → Sames z labels moves body out r → Sounds (table t states s) (z .actions) (table t facts (z .facts)) goals t labels moves out r
+    go : {labels moves out : List ℕ} {r : Turned}
+        → Aims (table t facts (z .facts)) (table t goals g) t (z .facts) body (Aim.Body (z .goal) (z .goals) (z .first))
+        → Sames z labels moves body out r
+        → Sounds (table t states s) (z .actions) (table t facts (z .facts)) (table t goals g) t labels moves out r
     go (aims f) (same h q) =
         sound h
         record {
@@ -132,20 +135,20 @@ busy-table = refl
 
 -- ---- from what was gathered to what the lines say
 
-pub turned-named : (t states : List ℕ) (s : ℕ) (actions : List ℕ) (a : ℕ) (facts : List ℕ) (f : ℕ) {goals : List (List ℕ)}
+pub turned-named : (t states : List ℕ) (s : ℕ) (actions : List ℕ) (a : ℕ) (facts : List ℕ) (f : ℕ) (goals : List ℕ) (g : ℕ)
     {first labels moves out : List ℕ} {r : Turned}
     → Gains (replicate 512 0) first (λ j. some-of (says-fact (table t states s) (table t facts f) 0 j) (lines t))
     → Gains first labels (λ j. some-of (says-fact (table t states s) (table busy-text busy-spans 1) 7 j) (lines t))
     → Gains (replicate 524288 0) moves (λ j. some-of (says-move (table t states s) (table t actions a) j) (lines t))
-    → Sounds (table t states s) a (table t facts f) goals t labels moves out r
-    → Answers (table t states s) (table t actions a) (table t facts f) goals t out r
-turned-named t states s actions a facts f {first = first} {labels} {moves} g h m x =
+    → Sounds (table t states s) a (table t facts f) (table t goals g) t labels moves out r
+    → Answers (table t states s) (table t actions a) (table t facts f) (table t goals g) t out r
+turned-named t states s actions a facts f goals g {labels = labels} k h m x =
     turned (gains-all 524288 m) said-labels (table-length t actions 0 a) x
   where
     said-labels : (j : ℕ) → has labels j
         ≡ (some-of (says-fact (table t states s) (bytes "busy" ∷ []) 7 j) (lines t) || some-of (says-fact (table t states s) (table t facts f) 0 j) (lines t))
     said-labels j =
-        gains-both (gains-all 512 g) h j
+        gains-both (gains-all 512 k) h j
         ∙ ap (λ (ns : List (List ℕ)). some-of (says-fact (table t states s) ns 7 j) (lines t)
         || some-of (says-fact (table t states s) (table t facts f) 0 j) (lines t)) busy-table
 
@@ -167,3 +170,11 @@ answered {t} {out} {r} {s} {s′} {a} {a′} {f} {f′} {g} {g′} es ea ef eg x
     subst (λ (y : List (List ℕ)). Answers y a′ f′ g′ t out r) es
     (subst (λ (y : List (List ℕ)). Answers s y f′ g′ t out r) ea
     (subst (λ (y : List (List ℕ)). Answers s a y g′ t out r) ef (subst (λ (y : List (List ℕ)). Answers s a f y t out r) eg x)))
+
+-- an answer that is the same promises the same
+pub same-answer : {t out : List ℕ} {r r′ : Turned} {s a f g : List (List ℕ)} → r ≡ r′ → Answers s a f g t out r → Answers s a f g t out r′
+same-answer {t} {out} {s = s} {a} {f} {g} e x = subst (λ (y : Turned). Answers s a f g t out y) e x
+
+-- what is told in a buffer is told in one that is as long
+pub told-long : {m n k : ℕ} → m ≡ n → Told m (Turned.Faults k) → Told n (Turned.Faults k)
+told-long {k = k} e x = subst (λ (y : ℕ). Told y (Turned.Faults k)) e x

@@ -63,3 +63,8 @@ pub record Job (states actions facts goals : List (List ℕ)) (t b : List ℕ) :
 pub data Answers (states actions facts goals : List (List ℕ)) (t out : List ℕ) : Turned → Type 0 where
   a-job : {n : ℕ} → n ≤ length out → Job states actions facts goals t (take n out) → Answers states actions facts goals t out (Turned.Job n)
   faulty : {n : ℕ} → Answers states actions facts goals t out (Turned.Faults n)
+
+-- Where a text has faults, some byte is told of them in a buffer that has room for one, and no more than it has room for.
+abbrev pub Told : ℕ → Turned → Type 0
+Told room (Turned.Job n) = Unit {0}
+Told room (Turned.Faults n) = (n ≤ room) × (1 ≤ room → 1 ≤ n)

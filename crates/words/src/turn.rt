@@ -7,7 +7,8 @@ ghost use Rattle.job.specs.Layout.{Fit};
 ghost use Rattle.lines.specs.Names.{Lie, table};
 ghost use Rattle.rows.specs.Cells.{Named};
 ghost use Rattle.phrases.specs.Tables.{Tables};
-ghost use Rattle.words.specs.Turned.{Answers, state-names, action-names, fact-names, goal-names};
+ghost use Rattle.words.specs.declared.turn.Turned.{Turned};
+ghost use Rattle.words.specs.Turned.{Answers, Told, state-names, action-names, fact-names, goal-names};
 ghost use Rattle.words.specs.Within.{Counted, Same, Sames, Sounds};
 use crate::goal::Aim;
 use faults::fault::Seen;
@@ -22,7 +23,9 @@ pub enum Turned {
 }
 
 // Tells that a fault lies in this program, and not in the text.
-fn blame(told: &mut [u8]) -> usize {
+fn blame(told: &mut [u8]) -> usize
+    ensures { λ r. ⌜ Told (length (now (told .entry))) (Turned.Faults r) ⌝ }
+{
     text::put_word(
         told,
         0,
@@ -289,8 +292,8 @@ fn turn_named(
     )
 }
 
-// Turns a text into a job in the output, or tells its faults.
-pub fn turn(out: &mut [u8], told: &mut [u8], text: &[u8]) -> Turned
+// The same from the text alone.
+fn turn_text(out: &mut [u8], told: &mut [u8], text: &[u8]) -> Turned
     ensures { λ r. ⌜ Answers (state-names (now (text .entry))) (action-names (now (text .entry))) (fact-names (now (text .entry)))
         (goal-names (now (text .entry))) (now (text .entry)) (now (out .exit)) r ⌝ }
 {
@@ -315,4 +318,29 @@ pub fn turn(out: &mut [u8], told: &mut [u8], text: &[u8]) -> Turned
         &goals,
         g,
     )
+}
+
+// How many bytes are told of faults; a fault of which nothing is told would lie in this program.
+fn tell(told: &mut [u8], n: usize) -> usize
+    ensures { λ r. ⌜ Told (length (now (told .entry))) (Turned.Faults r) ⌝ }
+{
+    if n == 0 {
+        return blame(told);
+    }
+    if told.len() < n {
+        return blame(told);
+    }
+    n
+}
+
+// Turns a text into a job in the output, or tells its faults.
+pub fn turn(out: &mut [u8], told: &mut [u8], text: &[u8]) -> Turned
+    ensures { λ r. ⌜ Answers (state-names (now (text .entry))) (action-names (now (text .entry))) (fact-names (now (text .entry)))
+        (goal-names (now (text .entry))) (now (text .entry)) (now (out .exit)) r ⌝ }
+    ensures { λ r. ⌜ Told (length (now (told .entry))) r ⌝ }
+{
+    match turn_text(out, told, text) {
+        Turned::Job(n) => Turned::Job(n),
+        Turned::Faults(n) => Turned::Faults(tell(told, n)),
+    }
 }

@@ -59,7 +59,7 @@ same-length-2 c = search needs
 returns : tie.Need-returns
 returns c =
     let x = c .before .before .before .before .before .before .before .before .before .before .before .before .before .before .before .before .before .before .before .before .before .before .before .before .before .before .before .args in
-    turned-named (x .text .now) (x .states .now) (x .s) (x .actions .now) (x .a) (x .facts .now) (x .f)
+    turned-named (x .text .now) (x .states .now) (x .s) (x .actions .now) (x .a) (x .facts .now) (x .f) (x .goals .now) (x .g)
     (c .before .before .before .before .before .before .before .before .before .before .before .before .before .before .before .before .before .before .facts .ensures)
     (c .before .before .before .before .before .before .before .before .before .before .before .before .before .facts2 .ensures)
     (c .before .before .before .before .before .before .before .before .before .before .moves2 .ensures)

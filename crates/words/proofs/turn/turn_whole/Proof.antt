@@ -55,7 +55,7 @@ returns-2 c =
     let aimed = sized .before .before .before in
     let started = aimed .before .before .before in
     let x = started .before .before .before .before .before .before .before .before .before .before .args in
-    sounds-same (x .text .now) (x .states .now) (x .s) (x .facts .now) (aimed .write-goal .ensures) (sized .size .given .1) refl
+    sounds-same (x .text .now) (x .states .now) (x .s) (x .facts .now) (x .goals .now) (x .g) (aimed .write-goal .ensures) (sized .size .given .1) refl
     (started .given .ensures)
     (finished .finish .ensures)
 
