@@ -18,6 +18,9 @@ const PLAN_ROOM: usize = 65536;
 
 const OUT_ROOM: usize = 16384;
 
+// As much as cabinet-words tells of faults.
+const TOLD_ROOM: usize = 65536;
+
 // The graph's edge from place i by record k, if it is a move from there.
 fn draw_move(text: &[u8], actions: &[usize], job: &[u8], l: Layout, plan: &[u8], i: usize, k: usize)
     requires { ⌜ Fit (now job) l ⌝ }
@@ -277,7 +280,7 @@ fn show_front(text: &[u8], job: &[u8], n: usize, dot: bool) {
 // Turns a text into a job and shows its plan, or tells the text's faults on standard error.
 fn show_text(text: &[u8], dot: bool) {
     let mut job = [0u8; JOB_ROOM];
-    let mut told = [0u8; 16384];
+    let mut told = [0u8; TOLD_ROOM];
     match words::turn::turn(&mut job, &mut told, text) {
         Turned::Faults(n) => {
             write_to(libc::STDERR_FILENO, &told, n);

@@ -19,7 +19,7 @@ use Rattle.rules.specs.Fault.{only}
 use Rattle.rules.specs.Job.{Job, place, entered, is-from, arena}
 use Rattle.rules.specs.Keeps.{Keeps}
 use Rattle.rules.specs.declared.place.Place.{Place}
-use Rattle.rules.proofs.Arenas.{leads-iff, entered-inside, arena-lawful}
+use Rattle.rules.proofs.Arenas.{leads-iff, inside-iff, entered-inside, arena-lawful}
 use Rattle.rules.proofs.Followed as followed
 use Rattle.rules.proofs.Planned.{entry-of, planned-exactly, planned-right}
 use Rattle.job.specs.declared.ask.Found.{Found}
@@ -122,3 +122,20 @@ module _ {b before after : List ℕ} (done : Planning b before (only 0) after) {
             let some : worth (said b) after q k ≡ 0 → ⊥ = not-lost none k h f in
             let z : worth (said b) after q k ≡ 1 = omega arith in
             record { one = h; outcome = f; so = rw z (hopes (led-value k h .pending .0 z) (none-lost none)) }
+
+  -- ---- the same by what the plan says of the place
+
+  module _ {s : ℕ} (hs : s < said b .states) where
+    value-told : ValueTold (arena (said b)) (place s q) (entry-of b after (place s q))
+    value-told =
+        followed.values-told b after keeps (λ p i. right-allowed (arena (said b)) (planned-right done refl p i)) _
+        (inside-iff (said b) (place s q) .1 (hs, hq))
+
+    -- Where a place is told lost, it is: no way of choosing can still meet the goal, however the outcomes fall.
+    pub lost-so : entry-of b after (place s q) .value ≡ 0 → Losing (arena (said b)) (place s q)
+    lost-so e = value-told .losing .0 e
+
+    -- Where a place is told with hope, each of its open actions has its line.
+    pub pending-line : entry-of b after (place s q) .value ≡ 1 → (a : ℕ) → Open (arena (said b)) (place s q) a → (states actions goals : ℕ → List ℕ)
+        → (k : ℕ) × (told-action (said b) after s q states actions goals a ≡ told-spoiler (said b) after q k states actions goals)
+    pending-line e a = open-line s a (λ w. absurd (omega (arith, e, value-told .winning .1 w)))

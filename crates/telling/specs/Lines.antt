@@ -53,3 +53,9 @@ spoiler-line action place v = (bytes "    ") ++ (action ++ ((bytes " is not sure
 -- the line of a place from which nothing leads to the goal
 abbrev pub lost-line : List ℕ
 lost-line = bytes "    nothing that is open here can lead to the goal\n"
+
+-- The first line of all, by the value of the start.
+abbrev pub outlook-text : ℕ → List ℕ
+outlook-text v =
+    cond (eqb v 2) (bytes "From the start the goal is sure.\n")
+    (cond (eqb v 1) (bytes "From the start the goal can be hoped for, and is not sure.\n") (bytes "From the start all is lost.\n"))

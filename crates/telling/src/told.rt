@@ -6,7 +6,7 @@ ghost use Rattle.rules.specs.Job.{places};
 ghost use Rattle.rules.specs.Plan.{entry};
 ghost use Rattle.job.specs.Layout.{Fit};
 ghost use Rattle.text.specs.PutText.{PutText};
-ghost use Rattle.telling.specs.Lines.{named, comma, place-text, moves-text, advice-text, spoilt-text, spoiler-line};
+ghost use Rattle.telling.specs.Lines.{named, comma, place-text, moves-text, advice-text, spoilt-text, spoiler-line, outlook-text};
 ghost use Rattle.telling.specs.Told.{told-entry, told-spoiler, told-action, told-actions, told-why, told-place};
 use crate::names::put_name;
 use crate::names::put_place;
@@ -364,7 +364,9 @@ pub fn tell_place(
 }
 
 // What can be said of the whole, by the value of the start.
-pub fn put_outlook(out: &mut [u8], value: u8) -> usize {
+pub fn put_outlook(out: &mut [u8], value: u8) -> usize
+    ensures { λ r. ⌜ PutText (now (out .entry)) 0 (outlook-text value) (now (out .exit)) r ⌝ }
+{
     if value == 2 {
         return text::put_word(out, 0, b"From the start the goal is sure.\n");
     }
