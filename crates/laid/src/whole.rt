@@ -1,5 +1,7 @@
 // The bytes of a job, in the old form where it fits and in the tall one otherwise.
 ghost use mathlib.Core.Path.{_≡_};
+ghost use mathlib.Core.Bool.{_||_};
+ghost use lib.Dec.{ltb};
 ghost use Prim.Native.Nat.{_*_, _≤_, _<_};
 ghost use lib.ListN.{length};
 
@@ -162,7 +164,9 @@ fn counts_size(tall: bool) -> usize
 }
 
 // Whether a job of so many states and moves is tall.
-pub fn is_tall(states: usize, moves: usize) -> bool {
+pub fn is_tall(states: usize, moves: usize) -> bool
+    ensures { λ r. ⌜ r ≡ (ltb 128 states || ltb 4096 moves) ⌝ }
+{
     if 128 < states {
         return true;
     }

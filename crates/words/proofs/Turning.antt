@@ -4,13 +4,14 @@ use mathlib.Core.Bool.{Bool, false, _||_, or-false}
 use mathlib.Core.List.{List, [], _∷_}
 use mathlib.Core.Path.{_≡_, refl, sym, ap, subst, _∙_}
 use native.Mathlib.Omega.{arith}
+use lib.Dec.{ltb}
 use lib.ListN.{length, getD, replicate, length-replicate}
 use Rattle.sets.specs.Sets.{bit}
 use Rattle.sets.proofs.Bits.{bit-none}
 use Rattle.rules.specs.Bytes.{byte, said}
 use Rattle.job.specs.Layout.{Fit}
 use Rattle.job.specs.declared.layout.Layout.{Layout}
-use Rattle.job.proofs.Asking.{states-said, actions-said, propositions-said, goals-said}
+use Rattle.job.proofs.Asking.{states-said, actions-said, propositions-said, goals-said, records-said, tall-said}
 use Rattle.text.specs.Lines.{bytes}
 use Rattle.lines.specs.Words.{lines}
 use Rattle.lines.specs.Names.{Lie, Holds, table, table-from, names}
@@ -62,6 +63,7 @@ module _ {states actions facts goals : List (List ℕ)} {t labels moves : List �
             ap (λ (y : ℕ). bit y i) (x .meant .labels-made s hs)
             ∙ (ap (λ (k : ℕ). bit (getD labels k 0) i) (sym ed)
             ∙ (ap (λ (k : ℕ). bit (getD labels ((8 * s + i) / 8) 0) k) (sym er) ∙ el (8 * s + i)));
+        form = x .of-form;
         start = x .of-start;
         goal = x .of-goal;
       }
@@ -73,15 +75,20 @@ module _ {states actions facts goals : List (List ℕ)} {t labels moves : List �
 
 -- ---- a job that was read, and is the one that was meant
 
-pub same-job : {b labels moves body : List ℕ} {l : Layout} {z : Sizes} → Fit b l → Counted l z → said b .first ≡ z .start
+pub same-job : {b labels moves body : List ℕ} {l : Layout} {z : Sizes} → Fit b l → Counted l z
+    → l .tall ≡ (ltb 128 (l .states) || ltb 4096 (l .records)) → said b .first ≡ z .start
     → Aimed b body (z .goal) (z .first) → Meant b labels moves → Same z labels moves body b
-same-job fit e start goal m =
+same-job {b} {l = l} fit e form start goal m =
     record {
       meant = m;
       of-states = sym (states-said fit) ∙ e .states-counted;
       of-actions = sym (actions-said fit) ∙ e .actions-counted;
       of-facts = sym (propositions-said fit) ∙ e .facts-counted;
       of-goals = sym (goals-said fit) ∙ e .goals-counted;
+      of-form =
+          sym (tall-said fit)
+          ∙ (form
+          ∙ (ap (λ (x : ℕ). ltb 128 x || ltb 4096 (l .records)) (states-said fit) ∙ ap (λ (x : ℕ). ltb 128 (said b .states) || ltb 4096 x) (records-said fit)));
       of-start = start;
       of-goal = goal;
     }
@@ -105,6 +112,7 @@ sounds-same t states s facts goals g {z} {body = body} x e es eb y =
           of-states = q .of-states ∙ (es ∙ sym (table-length t states 0 s));
           of-actions = q .of-actions;
           of-facts = q .of-facts ∙ sym (table-length t facts 0 (z .facts));
+          of-form = q .of-form;
           of-start = q .of-start ∙ eb;
           of-goal = f _ (q .of-facts) (q .of-goals) (q .of-goal);
         }

@@ -4,10 +4,11 @@ use Prim.Native.Nat.{ℕ, _+_, _*_, _≤_, _<_}
 use mathlib.Core.Bool.{Bool, _||_}
 use mathlib.Core.List.{List, [], _∷_}
 use mathlib.Core.Path.{_≡_}
+use lib.Dec.{ltb}
 use lib.ListN.{length, take}
 use Rattle.sets.specs.Sets.{bit}
 use Rattle.rules.specs.Job.{recorded}
-use Rattle.rules.specs.Bytes.{byte, said}
+use Rattle.rules.specs.Bytes.{is-tall, byte, said}
 use Rattle.rules.specs.Keeps.{Keeps}
 use Rattle.slips.specs.Writing.{clauses, slips-refusal}
 use Rattle.slips.specs.Playing.{goal-body, GoalFrom}
@@ -44,7 +45,8 @@ pub data Goal (facts goals : List (List ℕ)) (t b : List ℕ) : Type 0 where
       → TableBody facts goals (lines t) (said b .propositions) (goal-body b) → Goal facts goals t b
 
 -- The job b of a text t with these names of states, actions, facts and goal states. It keeps the rules, so that no number refuses it and its
--- records ascend strictly; it has a state, an action and a fact for each name; a record is in it exactly when some line says the move; bit i of a
+-- records ascend strictly; it has a state, an action and a fact for each name; it
+-- is tall exactly where it has more than 128 states or 4,096 records; a record is in it exactly when some line says the move; bit i of a
 -- state's label is set exactly when some line says fact i of it, or, for i = 7, that it is busy; it starts in the state that the text gives, and
 -- its goal is the text's.
 pub record Job (states actions facts goals : List (List ℕ)) (t b : List ℕ) : Type 0 where
@@ -52,6 +54,7 @@ pub record Job (states actions facts goals : List (List ℕ)) (t b : List ℕ) :
   pub all-states : said b .states ≡ length states
   pub all-actions : said b .actions ≡ length actions
   pub all-facts : said b .propositions ≡ length facts
+  pub form : is-tall b ≡ (ltb 128 (said b .states) || ltb 4096 (said b .records))
   pub moves : (s a u : ℕ) → s < 512 → a < 16 → u < 512 → recorded (said b) s a u ≡ some-of (says-move states actions (number s a u)) (lines t)
   pub labels : (s i : ℕ) → s < said b .states → i < 8
       → bit (byte b 1 s) i

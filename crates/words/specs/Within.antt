@@ -1,9 +1,11 @@
 -- What the parts of turning promise to one another: a goal's body in bytes, a job that has given numbers, and one that has a text's start and goal.
 use Prim.Native.Nat.{ℕ, _≤_}
+use mathlib.Core.Bool.{_||_}
 use mathlib.Core.List.{List}
 use mathlib.Core.Path.{_≡_}
+use lib.Dec.{ltb}
 use lib.ListN.{length, take}
-use Rattle.rules.specs.Bytes.{said}
+use Rattle.rules.specs.Bytes.{is-tall, said}
 use Rattle.slips.specs.Writing.{clauses, slips-refusal, Body}
 use Rattle.laid.specs.declared.whole.Sizes.{Sizes}
 use Rattle.job.specs.declared.layout.Layout.{Layout}
@@ -45,6 +47,7 @@ pub record Same (z : Sizes) (labels moves body b : List ℕ) : Type 0 where
   pub of-actions : said b .actions ≡ z .actions
   pub of-facts : said b .propositions ≡ z .facts
   pub of-goals : said b .goals ≡ z .goals
+  pub of-form : is-tall b ≡ (ltb 128 (said b .states) || ltb 4096 (said b .records))
   pub of-start : said b .first ≡ z .start
   pub of-goal : Aimed b body (z .goal) (z .first)
 
@@ -59,6 +62,7 @@ pub record Sound (states : List (List ℕ)) (a : ℕ) (facts goals : List (List 
   pub of-states : said b .states ≡ length states
   pub of-actions : said b .actions ≡ a
   pub of-facts : said b .propositions ≡ length facts
+  pub of-form : is-tall b ≡ (ltb 128 (said b .states) || ltb 4096 (said b .records))
   pub of-start : said b .first ≡ given (bytes "start") states (lines t)
   pub of-goal : Goal facts goals t b
 

@@ -1,6 +1,7 @@
 // A text in words turned into a job, or into lines that tell its faults.
 ghost use mathlib.Core.Path.{_≡_};
-ghost use mathlib.Core.Bool.{true};
+ghost use mathlib.Core.Bool.{true, _||_};
+ghost use lib.Dec.{ltb};
 ghost use Prim.Native.Nat.{_≤_};
 ghost use lib.ListN.{length};
 ghost use Rattle.job.specs.Layout.{Fit};
@@ -52,6 +53,17 @@ fn has_counts(l: Layout, z: Sizes) -> bool
     true
 }
 
+// Whether a job has the old form where that fits, and the tall one otherwise.
+fn is_form(l: Layout) -> bool
+    ensures { λ r. ⌜ (r ≡ true → l .tall ≡ (ltb 128 (l .states) || ltb 4096 (l .records))) ⌝ }
+{
+    let tall = laid::whole::is_tall(l.states, l.records);
+    if l.tall {
+        return tall;
+    }
+    !tall
+}
+
 // Whether a job that was read is the one that was meant.
 fn is_meant(job: &[u8], l: Layout, z: Sizes, body: &[u8], labels: &[u8], moves: &[u8]) -> bool
     requires { ⌜ Fit (now job) l ⌝ }
@@ -59,6 +71,9 @@ fn is_meant(job: &[u8], l: Layout, z: Sizes, body: &[u8], labels: &[u8], moves: 
     ensures { λ r. ⌜ (r ≡ true → Same z (now (labels .entry)) (now (moves .entry)) (now (body .entry)) (now (job .entry))) ⌝ }
 {
     if !has_counts(l, z) {
+        return false;
+    }
+    if !is_form(l) {
         return false;
     }
     if !meant::goal::is_start(l, z.start) {
