@@ -1,6 +1,6 @@
 -- The laws of turning a text into a job: from sets of moves and labels to what the lines say, and from tables to the names that are listed.
 use Prim.Native.Nat.{ℕ, zero, suc, _+_, _*_, _/_, _%_, _≤_, _<_}
-use mathlib.Core.Bool.{Bool, false, _||_, or-false}
+use mathlib.Core.Bool.{Bool, true, false, _||_, or-false}
 use mathlib.Core.List.{List, [], _∷_}
 use mathlib.Core.Path.{_≡_, refl, sym, ap, subst, _∙_}
 use native.Mathlib.Omega.{arith}
@@ -22,6 +22,7 @@ use Rattle.meant.specs.Meant.{Meant}
 use Rattle.meant.specs.Aimed.{Aimed}
 use Rattle.aims.specs.Aims.{given}
 use Rattle.laid.specs.declared.whole.Sizes.{Sizes}
+use Rattle.whole.specs.Whole.{whole}
 use Rattle.words.specs.Turned.{Job, Answers, Told, a-job, faulty}
 use Rattle.words.specs.Within.{Aims, aims, Counted, Same, Sames, same, other, Sound, Sounds, sound, blamed}
 use Rattle.words.specs.declared.goal.Aim.{Aim}
@@ -49,12 +50,12 @@ gains-both {g = g} h x j = x .members j ∙ ap (λ (y : Bool). g j || y) (h j)
 module _ {states actions facts goals : List (List ℕ)} {t labels moves : List ℕ}
     (em : (j : ℕ) → has moves j ≡ some-of (says-move states actions j) (lines t))
     (el : (j : ℕ) → has labels j ≡ (some-of (says-fact states (bytes "busy" ∷ []) 7 j) (lines t) || some-of (says-fact states facts 0 j) (lines t))) where
-  job-said : {a : ℕ} {b : List ℕ} → length actions ≡ a → Sound states a facts goals t labels moves b → Job states actions facts goals t b
-  job-said {b = b} ea x =
+  job-said : {b : List ℕ} → Sound states actions facts goals t labels moves b → Job states actions facts goals t b
+  job-said {b = b} x =
       record {
         keeps = x .meant .keeps;
         all-states = x .of-states;
-        all-actions = x .of-actions ∙ sym ea;
+        all-actions = x .of-actions;
         all-facts = x .of-facts;
         moves = λ s a u hs ha hu. x .meant .recorded-said s a u hs ha hu ∙ em (number s a u);
         labels = λ s i hs hi.
@@ -64,14 +65,14 @@ module _ {states actions facts goals : List (List ℕ)} {t labels moves : List �
             ∙ (ap (λ (k : ℕ). bit (getD labels k 0) i) (sym ed)
             ∙ (ap (λ (k : ℕ). bit (getD labels ((8 * s + i) / 8) 0) k) (sym er) ∙ el (8 * s + i)));
         form = x .of-form;
+        whole-lines = x .of-whole;
         start = x .of-start;
         goal = x .of-goal;
       }
 
-  turned : {a : ℕ} {out : List ℕ} {r : Turned} → length actions ≡ a → Sounds states a facts goals t labels moves out r
-      → Answers states actions facts goals t out r
-  turned ea (sound h x) = a-job h (job-said ea x)
-  turned ea blamed = faulty
+  turned : {out : List ℕ} {r : Turned} → Sounds states actions facts goals t labels moves out r → Answers states actions facts goals t out r
+  turned (sound h x) = a-job h (job-said x)
+  turned blamed = faulty
 
 -- ---- a job that was read, and is the one that was meant
 
@@ -94,25 +95,27 @@ same-job {b} {l = l} fit e form start goal m =
     }
 
 -- a job with the numbers, labels, moves and Goal body of a text has its start and its goal
-pub sounds-same : (t states : List ℕ) (s : ℕ) (facts goals : List ℕ) (g : ℕ) {z : Sizes} {labels moves body out : List ℕ} {w : Aim} {r : Turned}
+pub sounds-same : (t states : List ℕ) (s : ℕ) (actions facts goals : List ℕ) (g : ℕ) {z : Sizes} {labels moves body out : List ℕ} {w : Aim} {r : Turned}
     → Aims (table t facts (z .facts)) (table t goals g) t (z .facts) body w → w ≡ Aim.Body (z .goal) (z .goals) (z .first)
-    → z .states ≡ s → z .start ≡ given (bytes "start") (table t states s) (lines t) → Sames z labels moves body out r
-    → Sounds (table t states s) (z .actions) (table t facts (z .facts)) (table t goals g) t labels moves out r
-sounds-same t states s facts goals g {z} {body = body} x e es eb y =
+    → z .states ≡ s → whole (table t states s) (table t actions (z .actions)) (table t facts (z .facts)) (lines t) ≡ true
+    → z .start ≡ given (bytes "start") (table t states s) (lines t) → Sames z labels moves body out r
+    → Sounds (table t states s) (table t actions (z .actions)) (table t facts (z .facts)) (table t goals g) t labels moves out r
+sounds-same t states s actions facts goals g {z} {body = body} x e es ew eb y =
     go (subst (Aims (table t facts (z .facts)) (table t goals g) t (z .facts) body) e x) y
   where
     go : {labels moves out : List ℕ} {r : Turned}
         → Aims (table t facts (z .facts)) (table t goals g) t (z .facts) body (Aim.Body (z .goal) (z .goals) (z .first))
         → Sames z labels moves body out r
-        → Sounds (table t states s) (z .actions) (table t facts (z .facts)) (table t goals g) t labels moves out r
+        → Sounds (table t states s) (table t actions (z .actions)) (table t facts (z .facts)) (table t goals g) t labels moves out r
     go (aims f) (same h q) =
         sound h
         record {
           meant = q .meant;
           of-states = q .of-states ∙ (es ∙ sym (table-length t states 0 s));
-          of-actions = q .of-actions;
+          of-actions = q .of-actions ∙ sym (table-length t actions 0 (z .actions));
           of-facts = q .of-facts ∙ sym (table-length t facts 0 (z .facts));
           of-form = q .of-form;
+          of-whole = ew;
           of-start = q .of-start ∙ eb;
           of-goal = f _ (q .of-facts) (q .of-goals) (q .of-goal);
         }
@@ -148,10 +151,10 @@ pub turned-named : (t states : List ℕ) (s : ℕ) (actions : List ℕ) (a : ℕ
     → Gains (replicate 512 0) first (λ j. some-of (says-fact (table t states s) (table t facts f) 0 j) (lines t))
     → Gains first labels (λ j. some-of (says-fact (table t states s) (table busy-text busy-spans 1) 7 j) (lines t))
     → Gains (replicate 524288 0) moves (λ j. some-of (says-move (table t states s) (table t actions a) j) (lines t))
-    → Sounds (table t states s) a (table t facts f) (table t goals g) t labels moves out r
+    → Sounds (table t states s) (table t actions a) (table t facts f) (table t goals g) t labels moves out r
     → Answers (table t states s) (table t actions a) (table t facts f) (table t goals g) t out r
 turned-named t states s actions a facts f goals g {labels = labels} k h m x =
-    turned (gains-all 524288 m) said-labels (table-length t actions 0 a) x
+    turned (gains-all 524288 m) said-labels x
   where
     said-labels : (j : ℕ) → has labels j
         ≡ (some-of (says-fact (table t states s) (bytes "busy" ∷ []) 7 j) (lines t) || some-of (says-fact (table t states s) (table t facts f) 0 j) (lines t))

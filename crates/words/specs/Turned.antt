@@ -1,7 +1,7 @@
 -- What a job that was written from a text promises: it keeps the rules, and its states, actions, facts, records, labels, start and goal are those
 -- that the text's lines say.
 use Prim.Native.Nat.{ℕ, _+_, _*_, _≤_, _<_}
-use mathlib.Core.Bool.{Bool, _||_}
+use mathlib.Core.Bool.{Bool, true, _||_}
 use mathlib.Core.List.{List, [], _∷_}
 use mathlib.Core.Path.{_≡_}
 use lib.Dec.{ltb}
@@ -18,6 +18,7 @@ use Rattle.lines.specs.Names.{names}
 use Rattle.lines.specs.Says.{some-of, says-move, says-fact, number}
 use Rattle.aims.specs.Aims.{given, clauses-said}
 use Rattle.rows.specs.Rows.{TableBody}
+use Rattle.whole.specs.Whole.{whole}
 use Rattle.words.specs.declared.turn.Turned.{Turned}
 
 -- the names that a text lists: of states the first 512, of actions the first 16, of facts the first 6, of goal states the first 32; a text that
@@ -47,7 +48,8 @@ pub data Goal (facts goals : List (List ℕ)) (t b : List ℕ) : Type 0 where
 -- The job b of a text t with these names of states, actions, facts and goal states. It keeps the rules, so that no number refuses it and its
 -- records ascend strictly; it has a state, an action and a fact for each name; it
 -- is tall exactly where it has more than 128 states or 4,096 records; a record is in it exactly when some line says the move; bit i of a
--- state's label is set exactly when some line says fact i of it, or, for i = 7, that it is busy; it starts in the state that the text gives, and
+-- state's label is set exactly when some line says fact i of it, or, for i = 7, that it is busy, and no word of a line that
+-- says moves, facts or a clause is skipped; it starts in the state that the text gives, and
 -- its goal is the text's.
 pub record Job (states actions facts goals : List (List ℕ)) (t b : List ℕ) : Type 0 where
   pub keeps : Keeps b
@@ -59,6 +61,7 @@ pub record Job (states actions facts goals : List (List ℕ)) (t b : List ℕ) :
   pub labels : (s i : ℕ) → s < said b .states → i < 8
       → bit (byte b 1 s) i
       ≡ (some-of (says-fact states (bytes "busy" ∷ []) 7 (8 * s + i)) (lines t) || some-of (says-fact states facts 0 (8 * s + i)) (lines t))
+  pub whole-lines : whole states actions facts (lines t) ≡ true
   pub start : said b .first ≡ given (bytes "start") states (lines t)
   pub goal : Goal facts goals t b
 

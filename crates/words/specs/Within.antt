@@ -1,6 +1,6 @@
 -- What the parts of turning promise to one another: a goal's body in bytes, a job that has given numbers, and one that has a text's start and goal.
 use Prim.Native.Nat.{ℕ, _≤_}
-use mathlib.Core.Bool.{_||_}
+use mathlib.Core.Bool.{true, _||_}
 use mathlib.Core.List.{List}
 use mathlib.Core.Path.{_≡_}
 use lib.Dec.{ltb}
@@ -12,6 +12,7 @@ use Rattle.job.specs.declared.layout.Layout.{Layout}
 use Rattle.text.specs.Lines.{bytes}
 use Rattle.lines.specs.Words.{lines}
 use Rattle.aims.specs.Aims.{given}
+use Rattle.whole.specs.Whole.{whole}
 use Rattle.meant.specs.Meant.{Meant}
 use Rattle.meant.specs.Aimed.{Aimed}
 use Rattle.words.specs.Turned.{Goal}
@@ -57,16 +58,17 @@ pub data Sames (z : Sizes) (labels moves body out : List ℕ) : Turned → Type 
 
 -- ---- a job that has a text's start and goal, and given labels and moves
 
-pub record Sound (states : List (List ℕ)) (a : ℕ) (facts goals : List (List ℕ)) (t labels moves b : List ℕ) : Type 0 where
+pub record Sound (states actions facts goals : List (List ℕ)) (t labels moves b : List ℕ) : Type 0 where
   pub meant : Meant b labels moves
   pub of-states : said b .states ≡ length states
-  pub of-actions : said b .actions ≡ a
+  pub of-actions : said b .actions ≡ length actions
   pub of-facts : said b .propositions ≡ length facts
   pub of-form : is-tall b ≡ (ltb 128 (said b .states) || ltb 4096 (said b .records))
+  pub of-whole : whole states actions facts (lines t) ≡ true
   pub of-start : said b .first ≡ given (bytes "start") states (lines t)
   pub of-goal : Goal facts goals t b
 
-pub data Sounds (states : List (List ℕ)) (a : ℕ) (facts goals : List (List ℕ)) (t labels moves out : List ℕ) : Turned → Type 0 where
-  sound : {n : ℕ} → n ≤ length out → Sound states a facts goals t labels moves (take n out)
-      → Sounds states a facts goals t labels moves out (Turned.Job n)
-  blamed : {n : ℕ} → Sounds states a facts goals t labels moves out (Turned.Faults n)
+pub data Sounds (states actions facts goals : List (List ℕ)) (t labels moves out : List ℕ) : Turned → Type 0 where
+  sound : {n : ℕ} → n ≤ length out → Sound states actions facts goals t labels moves (take n out)
+      → Sounds states actions facts goals t labels moves out (Turned.Job n)
+  blamed : {n : ℕ} → Sounds states actions facts goals t labels moves out (Turned.Faults n)

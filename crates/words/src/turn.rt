@@ -5,7 +5,9 @@ ghost use lib.Dec.{ltb};
 ghost use Prim.Native.Nat.{_≤_};
 ghost use lib.ListN.{length};
 ghost use Rattle.job.specs.Layout.{Fit};
+ghost use Rattle.lines.specs.Words.{lines};
 ghost use Rattle.lines.specs.Names.{Lie, table};
+ghost use Rattle.whole.specs.Whole.{whole};
 ghost use Rattle.rows.specs.Cells.{Named};
 ghost use Rattle.phrases.specs.Tables.{Tables};
 ghost use Rattle.words.specs.declared.turn.Turned.{Turned};
@@ -131,13 +133,14 @@ fn finish(
     Turned::Faults(blame(told))
 }
 
-// Turns a text without faults, which has n moves.
+// Turns a text without faults, of whose lines no word is skipped and which has n moves.
 fn turn_whole(
     out: &mut [u8],
     told: &mut [u8],
     text: &[u8],
     states: &[usize],
     s: usize,
+    actions: &[usize],
     a: usize,
     facts: &[usize],
     f: usize,
@@ -149,7 +152,9 @@ fn turn_whole(
 ) -> Turned
     requires { ⌜ (Lie (now text) (now states) s) × (s ≤ 512) × (Named (now text) (now facts) (now goals) f g) ⌝ }
     requires { ⌜ (length (now labels) ≡ 512) × (length (now moves) ≡ 524288) ⌝ }
-    ensures { λ r. ⌜ Sounds (table (now (text .entry)) (now (states .entry)) s) a (table (now (text .entry)) (now (facts .entry)) f)
+    requires { ⌜ whole (table (now text) (now states) s) (table (now text) (now actions) a) (table (now text) (now facts) f) (lines (now text)) ≡ true ⌝ }
+    ensures { λ r. ⌜ Sounds (table (now (text .entry)) (now (states .entry)) s) (table (now (text .entry)) (now (actions .entry)) a)
+        (table (now (text .entry)) (now (facts .entry)) f)
         (table (now (text .entry)) (now (goals .entry)) g) (now (text .entry)) (now (labels .entry)) (now (moves .entry)) (now (out .exit)) r ⌝ }
 {
     let start = aims::given(text, b"start", states, s);
@@ -241,7 +246,8 @@ fn turn_said(
 ) -> Turned
     requires { ⌜ Tables (now text) (now states) s (now actions) a (now facts) f (now goals) g ⌝ }
     requires { ⌜ (length (now labels) ≡ 512) × (length (now moves) ≡ 524288) ⌝ }
-    ensures { λ r. ⌜ Sounds (table (now (text .entry)) (now (states .entry)) s) a (table (now (text .entry)) (now (facts .entry)) f)
+    ensures { λ r. ⌜ Sounds (table (now (text .entry)) (now (states .entry)) s) (table (now (text .entry)) (now (actions .entry)) a)
+        (table (now (text .entry)) (now (facts .entry)) f)
         (table (now (text .entry)) (now (goals .entry)) g) (now (text .entry)) (now (labels .entry)) (now (moves .entry)) (now (out .exit)) r ⌝ }
 {
     let n = laid::whole::count(moves);
@@ -249,12 +255,16 @@ fn turn_said(
     if is_faulty(seen) {
         return Turned::Faults(faults::fault::say_more(told, seen));
     }
+    if !whole::is_whole(text, states, s, actions, a, facts, f) {
+        return Turned::Faults(blame(told));
+    }
     turn_whole(
         out,
         told,
         text,
         states,
         s,
+        actions,
         a,
         facts,
         f,

@@ -34,7 +34,9 @@ slice-aggregate-finish : tie.Need-slice-aggregate-finish
 slice-aggregate-finish c = search needs
 
 finish-requires : tie.Need-finish-requires
-finish-requires c κs = search needs
+finish-requires c κs =
+    let p = c .before .before .before .before .before .before .before .before .before .before .before .before .before .before .before .before .before .before .before .before .before .pre in
+    (p .0 .1, p .1 .0 .0, p .1 .0 .1)
 
 same-length : tie.Need-same-length
 same-length c = search needs
@@ -54,8 +56,10 @@ returns-2 c =
     let sized = finished .before .before .before .before .before in
     let aimed = sized .before .before .before in
     let started = aimed .before .before .before in
-    let x = started .before .before .before .before .before .before .before .before .before .before .args in
-    sounds-same (x .text .now) (x .states .now) (x .s) (x .facts .now) (x .goals .now) (x .g) (aimed .write-goal .ensures) (sized .size .given .1) refl
+    let entry = started .before .before .before .before .before .before .before .before .before .before .before in
+    let x = entry .args in
+    sounds-same (x .text .now) (x .states .now) (x .s) (x .actions .now) (x .facts .now) (x .goals .now) (x .g) (aimed .write-goal .ensures) (sized .size .given .1) refl
+    (entry .pre .1 .1)
     (started .given .ensures)
     (finished .finish .ensures)
 
