@@ -46,11 +46,10 @@ pub data Goal (facts goals : List (List ℕ)) (t b : List ℕ) : Type 0 where
       → TableBody facts goals (lines t) (said b .propositions) (goal-body b) → Goal facts goals t b
 
 -- The job b of a text t with these names of states, actions, facts and goal states. It keeps the rules, so that no number refuses it and its
--- records ascend strictly; it has a state, an action and a fact for each name; it
--- is tall exactly where it has more than 128 states or 4,096 records; a record is in it exactly when some line says the move; bit i of a
--- state's label is set exactly when some line says fact i of it, or, for i = 7, that it is busy, and no word of a line that
--- says moves, facts or a clause is skipped; it starts in the state that the text gives, and
--- its goal is the text's.
+-- records ascend strictly; it has a state, an action and a fact for each name; it is tall exactly where it has more than 128 states or 4,096
+-- records; a record is in it exactly when some line says the move; bit i of a state's label is set exactly when some line says fact i of it, or,
+-- for i = 7, that it is busy; no word of a line that says moves, facts or a clause is skipped; it starts in the state that the text gives, and its
+-- goal is the text's.
 pub record Job (states actions facts goals : List (List ℕ)) (t b : List ℕ) : Type 0 where
   pub keeps : Keeps b
   pub all-states : said b .states ≡ length states
