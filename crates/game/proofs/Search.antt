@@ -53,7 +53,7 @@ lowest_at f (suc n) k h e = go (f zero) refl k h e (lowest_at f' n)
     go false z (suc k) h e r =
         let l = r k (le_of_suc-le-suc h) e in
         rw (z, lowest)
-        (suc-le-suc l.0, (l.1.0, λ m. elim m [ zero ↦ λ q. absurd (clash q z) | suc i ↦ λ q. suc-le-suc (l.1.1 i q) ]))
+        (suc-le-suc l.0, (l.1.0, λ m. elim m as (λ k. f k ≡ true → suc (lowest f' n) ≤ k) [ zero ↦ λ q. absurd (clash q z) | suc i ↦ λ q. suc-le-suc (l.1.1 i q) ]))
 
 -- tests that agree below n
 pub lowest_ext : (f g : ℕ → Bool) (n : ℕ) → ((a : ℕ) → a < n → f a ≡ g a) → lowest f n ≡ lowest g n

@@ -97,7 +97,7 @@ pub fn forgiven_move_at(job: &[u8], l: Layout, k: usize) -> Move
 }
 
 // What looking for a record answers: its number, or that there is none.
-#[derive(Drop)]
+#[derive(Clone, Copy)]
 pub enum Found {
     At(usize),
     Nothing,

@@ -1,7 +1,7 @@
 // Where a job's bodies lie, what its counts are and which form it has, and the answers of judging its records and of reading it.
 use rules::answer::Refusal;
 
-#[derive(Drop)]
+#[derive(Clone, Copy)]
 pub struct Layout {
     pub states: usize,
     pub actions: u8,
@@ -17,14 +17,14 @@ pub struct Layout {
 }
 
 // What judging records answers: all are good, or what is wrong with the first bad one.
-#[derive(Drop)]
+#[derive(Clone, Copy)]
 pub enum Verdict {
     Good,
     Bad(Refusal),
 }
 
 // What reading answers.
-#[derive(Drop)]
+#[derive(Clone, Copy)]
 pub enum Reading {
     Job(Layout),
     Refused(Refusal),

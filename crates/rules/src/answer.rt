@@ -3,7 +3,7 @@ ghost use Rattle.std.specs.Prelude.{◌≡◌};
 ghost use Rattle.rules.specs.Answers.{refusal_fault, value_number};
 
 // Why a call says no: the names of the table of numbers that say no, in its order. A field or an order has the bad record's number.
-#[derive(Drop)]
+#[derive(Clone, Copy)]
 pub enum Refusal {
     Short,
     Contents,
@@ -23,7 +23,7 @@ pub enum Refusal {
     Slips,
 }
 
-#[derive(Drop)]
+#[derive(Clone, Copy)]
 pub enum Value {
     Losing,
     Pending,
@@ -31,14 +31,14 @@ pub enum Value {
 }
 
 // What planning answers.
-#[derive(Drop)]
+#[derive(Clone, Copy)]
 pub enum Planned {
     Done,
     Refused(Refusal),
 }
 
 // What advice answers.
-#[derive(Drop)]
+#[derive(Clone, Copy)]
 pub enum Advised {
     Says {
         value: Value,

@@ -7,7 +7,7 @@ use crate::answer::Value;
 use game::entry::Entry;
 
 // The value that an entry of one of the four shapes has.
-#[derive(Drop)]
+#[derive(Clone, Copy)]
 pub enum Shape {
     Of(Value),
     Nothing,

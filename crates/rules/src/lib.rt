@@ -1,4 +1,6 @@
 // The small values that every layer passes around. What they mean stands in specs/.
+#![tactic(auto)]
+
 pub mod answer;
 pub mod entry;
 pub mod place;

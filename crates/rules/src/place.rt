@@ -3,14 +3,14 @@ ghost use Rattle.std.specs.Prelude.{◌≡◌};
 ghost use Rattle.rules.specs.Job.{entry_number};
 
 // A state of the cabinet with a goal state that has read that state's label.
-#[derive(Drop)]
+#[derive(Clone, Copy)]
 pub struct Place {
     pub state: u16,
     pub goal: u16,
 }
 
 // A record of the table: the action, taken at the state, may lead to the outcome.
-#[derive(Drop)]
+#[derive(Clone, Copy)]
 pub struct Move {
     pub state: u16,
     pub action: u8,
@@ -18,7 +18,7 @@ pub struct Move {
 }
 
 // What Counts says: how many states, actions, propositions and goal states a job has, and with which state and goal state it starts.
-#[derive(Drop)]
+#[derive(Clone, Copy)]
 pub struct Counts {
     pub states: usize,
     pub actions: u8,

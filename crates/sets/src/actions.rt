@@ -3,12 +3,12 @@ ghost use Rattle.std.specs.Prelude.{◌≡◌, false, ◌&&◌, ◌||◌, not, �
 ghost use Rattle.sets.specs.Sets.{bit};
 ghost use Rattle.sets.specs.Lowest.{LowestOf};
 
-#[derive(Drop)]
+#[derive(Clone, Copy)]
 pub struct ActionSet {
     pub bits: u16,
 }
 
-#[derive(Drop)]
+#[derive(Clone, Copy)]
 pub enum LowestAction {
     Is(u8),
     Nothing,

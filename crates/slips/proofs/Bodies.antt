@@ -212,7 +212,7 @@ passed true true z e = (refl, refl)
 passed true false z e = absurd (omega arith)
 passed false y z e = absurd (omega arith)
 
-pub writing_few : {s before after : List ℕ} {p r n : ℕ} → Writing s p before r n after → n ≤ 1755
+pub writing_few : {s before : List ℕ} {p : ℕ} {after : List ℕ} {r n : ℕ} → Writing s p before r n after → n ≤ 1755
 writing_few (refused h) = omega arith
 writing_few {s} {before} {p = p} (written e x) =
     let (c, f) = passed (counted s) (sound s p) (ltb (length before) (body_size (clauses s) p)) e in

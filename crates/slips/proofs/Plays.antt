@@ -19,7 +19,7 @@ use Rattle.game.proofs.Tests.{and_iff}
 use Rattle.game.proofs.Visiting.{goes_inside, run_goes}
 use Rattle.rules.specs.Formula.{Nonempty}
 use Rattle.rules.specs.Job.{Job, start, arena}
-use Rattle.rules.specs.Bytes.{offset, size, byte, rows, mark, said, goal}
+use Rattle.rules.specs.Bytes.{offset, size, byte, mark, said, goal}
 use Rattle.rules.specs.Keeps.{Keeps}
 use Rattle.rules.specs.Trace.{reads, label_of}
 use Rattle.rules.specs.declared.place.Place.{Place}

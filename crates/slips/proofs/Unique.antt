@@ -36,7 +36,7 @@ body_unique cs p g k x y = ext_get_or 0 g k (x.long ∙ sym y.long) (λ i h. at 
         let q : d < states cs = omega arith in
         ap (λ (z : ℕ). get_or g z 0) (sym e) ∙ x.marks d q ∙ sym (y.marks d q) ∙ ap (λ (z : ℕ). get_or k z 0) e
 
-pub writing_unique : {s before after after' : List ℕ} {p r r' n n' : ℕ} → Writing s p before r n after → Writing s p before r' n' after'
+pub writing_unique : {s before : List ℕ} {p : ℕ} {after after' : List ℕ} {r r' n n' : ℕ} → Writing s p before r n after → Writing s p before r' n' after'
     → (r ≡ r') × (n ≡ n') × (after ≡ after')
 writing_unique (refused h) (refused k) = (refl, refl, refl)
 writing_unique (refused h) (written e y) = absurd (h e)
@@ -54,7 +54,7 @@ mark_few false = omega arith
 abbrev pub Given : ℕ → Type 0
 Given r = (r ≡ 0) ⊎ ((r ≡ 14) ⊎ ((r ≡ 15) ⊎ (r ≡ 7)))
 
-pub writing_range : {s before after : List ℕ} {p r n : ℕ} → Writing s p before r n after → Given r
+pub writing_range : {s before : List ℕ} {p : ℕ} {after : List ℕ} {r n : ℕ} → Writing s p before r n after → Given r
 writing_range {s} {before} {p = p} (refused h) =
     go (counted s) (sound s p) (ltb (length before) (body_size (clauses s) p))
   where

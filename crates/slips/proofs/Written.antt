@@ -54,7 +54,7 @@ module _ {cs : List Clause} {p : ℕ} {g : List ℕ} (x : Body cs p g) where
 -- ---- the bytes that the call leaves
 
 -- the first n of them are the body of the clauses
-pub written_body : {s before after : List ℕ} {p r n : ℕ} → Writing s p before r n after → r ≡ 0 → Body (clauses s) p (take n after)
+pub written_body : {s before : List ℕ} {p : ℕ} {after : List ℕ} {r n : ℕ} → Writing s p before r n after → r ≡ 0 → Body (clauses s) p (take n after)
 written_body (refused h) z = absurd (h z)
 written_body {s} {before} {p = p} (written {g} e x) z =
     let n = body_size (clauses s) p in

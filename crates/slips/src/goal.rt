@@ -6,7 +6,7 @@ ghost use Rattle.slips.specs.Writing.{in_kind, in_kind_at, written_refusal, writ
 use rules::answer::Refusal;
 
 // What writing answers: how many bytes the body has, or why not.
-#[derive(Drop)]
+#[derive(Clone, Copy)]
 pub enum Written {
     Bytes(usize),
     Refused(Refusal),

@@ -1,0 +1,7 @@
+-- `label::has_proposition` meets its contract: a byte has no bit from 8 on.
+use mathlib.Core.Path.{sym}
+use Rattle.sets.proofs.Bits.{bit_above}
+use Rattle.sets.proofs.label.has_proposition.Goals as goal
+
+pub returns-else-i-lt8 : goal.returns-else-i-lt8
+returns-else-i-lt8 c = sym (bit_above _ 8 _ c.ranges.label.fits c.if-i-lt8.false)
