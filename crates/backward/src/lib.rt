@@ -1,4 +1,6 @@
 // A second engine: it works backward from accepted places, with an index of the records that lead to each state.
+#![tactic(auto)]
+
 mod counts;
 mod index;
 mod layer;

@@ -15,7 +15,7 @@ pub const PLAN_ROOM: usize = 4 * sets::places::ROOM;
 const SMALL_ROOM: usize = 1024;
 
 // What the check answers: right, the lowest place whose entry is wrong, or why not.
-#[derive(Drop)]
+#[derive(Clone, Copy)]
 pub enum Checked {
     Right,
     Wrong { state: u32, goal: u32 },

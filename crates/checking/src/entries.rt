@@ -11,7 +11,7 @@ use game::entry::Entry;
 use job::layout::Layout;
 
 // What the records of a state show of an action: whether an outcome does, and whether one does not.
-#[derive(Drop)]
+#[derive(Clone, Copy)]
 pub struct Seen {
     pub held: bool,
     pub spoilt: bool,

@@ -4,7 +4,7 @@ ghost use Rattle.judging.specs.Nodes.{node_of};
 ghost use Rattle.judging.specs.Reading.{ReadOf, Shallow, raised, at_least};
 
 // What a byte of a formula says: an atom, one of the operators, or nothing.
-#[derive(Drop)]
+#[derive(Clone, Copy)]
 pub enum Node {
     Atom,
     Not,
@@ -18,7 +18,7 @@ pub enum Node {
 }
 
 // Where a formula ends, and its depth; or that none stands there.
-#[derive(Drop)]
+#[derive(Clone, Copy)]
 pub enum Read {
     Good { end: usize, depth: usize },
     Bad,

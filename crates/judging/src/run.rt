@@ -7,7 +7,7 @@ ghost use Rattle.judging.specs.Reading.{ReadWhole};
 use crate::read::Read;
 
 // What judging answers: whether the formula holds, or what is refused: the trace, the formula, its depth, or a label.
-#[derive(Drop)]
+#[derive(Clone, Copy)]
 pub enum Judged {
     Holds,
     HoldsNot,

@@ -1,4 +1,6 @@
 // Labelling every place by rounds, and writing the plan.
+#![tactic(auto)]
+
 pub mod plan;
 pub mod range;
 mod round;

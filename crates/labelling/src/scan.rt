@@ -12,7 +12,7 @@ use sets::actions::{ActionSet, LowestAction};
 use sets::places::WORDS;
 
 // Sets of actions at a place: those with a record, those with an outcome in the set of places, and those with one outside it.
-#[derive(Drop)]
+#[derive(Clone, Copy)]
 pub struct Tally {
     pub opens: ActionSet,
     pub held: ActionSet,

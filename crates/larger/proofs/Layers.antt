@@ -3,7 +3,7 @@ use Prim.Native.Nat.{ℕ, zero, suc, ◌+◌, ◌*◌, ◌≤◌, ◌<◌, zero-
 use mathlib.Core.List.{List}
 use mathlib.Core.Logic.{◌↔◌}
 use mathlib.Core.Path.{◌≡◌, sym, ◌∙◌, subst}
-use native.Mathlib.Nat.{one-mul, zero-mul, zero_add}
+use native.Mathlib.Nat.{one-mul, zero-mul, zero-add}
 use native.Mathlib.Omega.{arith}
 use lib.Arith.{digits_lt}
 use Rattle.game.specs.Game.{Inside, Lawful, Right}
@@ -58,7 +58,7 @@ module _ (j : Job) (L : Lawful (arena j)) where
       inside s q hs hq = (inside_iff j (place s q)).1 (hs, hq)
 
       first : (s q : ℕ) → larger_number j (larger 0 (place s q)) ≡ entry_number j.goals (place s q)
-      first s q = rw (zero-mul (places j)) (zero_add _)
+      first s q = rw (zero-mul (places j)) (zero-add _)
 
       to : (s q : ℕ) → s < j.states → q < j.goals
           → Right (larger_arena j 0) (larger 0 (place s q)) (entry p (larger_number j (larger 0 (place s q))))
@@ -78,7 +78,7 @@ module _ (j : Job) (L : Lawful (arena j)) where
   pub larger_first : (K : ℕ) {p : List ℕ} → LargerPlan j K p → (s q : ℕ) → s < j.states → q < j.goals
       → Right (arena j) (place s q) (entry p (entry_number j.goals (place s q)))
   larger_first K {p} a s q hs hq =
-      let first : larger_number j (larger 0 (place s q)) ≡ entry_number j.goals (place s q) = rw (zero-mul (places j)) (zero_add _) in
+      let first : larger_number j (larger 0 (place s q)) ≡ entry_number j.goals (place s q) = rw (zero-mul (places j)) (zero-add _) in
       (right_today (arena j) L K (place s q) ((inside_iff j (place s q)).1 (hs, hq)) (entry p (entry_number j.goals (place s q)))).0
       (subst (λ i. Right (larger_arena j K) (larger 0 (place s q)) (entry p i)) first (a.right 0 s q zero-le hs hq))
 

@@ -36,25 +36,28 @@ use Rattle.larger.proofs.Layers.{number_below, larger_unique, larger_today}
 
 pub trembling_unique : {b before after after' : List ℕ} {K : ℕ} {f f' : Fault} → Trembling b K before f after → Trembling b K before f' after'
     → (f ≡ f') × (after ≡ after')
-trembling_unique (refused n) (refused n') = (refl, refl)
-trembling_unique (refused n) (too_many e t) = absurd (n e)
-trembling_unique (refused n) (no_room e t l) = absurd (n e)
-trembling_unique (refused n) (planned e t l p) = absurd (n e)
-trembling_unique (too_many e t) (refused n) = absurd (n e)
-trembling_unique (too_many e t) (too_many e' t') = (refl, refl)
-trembling_unique (too_many e t) (no_room e' t' l) = absurd (omega arith)
-trembling_unique (too_many e t) (planned e' t' l p) = absurd (omega arith)
-trembling_unique (no_room e t l) (refused n) = absurd (n e)
-trembling_unique (no_room e t l) (too_many e' t') = absurd (omega arith)
-trembling_unique (no_room e t l) (no_room e' t' l') = (refl, refl)
-trembling_unique (no_room e t l) (planned e' t' l' p) = absurd (omega arith)
-trembling_unique (planned e t l p) (refused n) = absurd (n e)
-trembling_unique (planned e t l p) (too_many e' t') = absurd (omega arith)
-trembling_unique (planned e t l p) (no_room e' t' l') = absurd (omega arith)
-trembling_unique {b} {before} {K = K} (planned e t l p) (planned e' t' l' p') = (
-  refl,
-  ap (λ (x : List ℕ). x ++ drop (larger_room (said b) K) before) (larger_unique (said b) (arena_lawful b ((kept b).0 e)) K p p'),
-)
+trembling_unique {b} {before} {K = K} w w' = one K w w'
+  where
+    one : (K : ℕ) {after after' : List ℕ} {f f' : Fault} → Trembling b K before f after → Trembling b K before f' after' → (f ≡ f') × (after ≡ after')
+    one K (refused n) (refused n') = (refl, refl)
+    one K (refused n) (too_many e t) = absurd (n e)
+    one K (refused n) (no_room e t l) = absurd (n e)
+    one K (refused n) (planned e t l p) = absurd (n e)
+    one K (too_many e t) (refused n) = absurd (n e)
+    one K (too_many e t) (too_many e' t') = (refl, refl)
+    one K (too_many e t) (no_room e' t' l) = absurd (omega arith)
+    one K (too_many e t) (planned e' t' l p) = absurd (omega arith)
+    one K (no_room e t l) (refused n) = absurd (n e)
+    one K (no_room e t l) (too_many e' t') = absurd (omega arith)
+    one K (no_room e t l) (no_room e' t' l') = (refl, refl)
+    one K (no_room e t l) (planned e' t' l' p) = absurd (omega arith)
+    one K (planned e t l p) (refused n) = absurd (n e)
+    one K (planned e t l p) (too_many e' t') = absurd (omega arith)
+    one K (planned e t l p) (no_room e' t' l') = absurd (omega arith)
+    one K (planned e t l p) (planned e' t' l' p') = (
+      refl,
+      ap (λ (x : List ℕ). x ++ drop (larger_room (said b) K) before) (larger_unique (said b) (arena_lawful b ((kept b).0 e)) K p p'),
+    )
 
 -- K = 0 gives today's answer and plan bytes.
 pub trembling_today : {b before after : List ℕ} {f : Fault} → Trembling b 0 before f after → calls.Planning b before f after
@@ -75,40 +78,53 @@ larger_entry b after x = entry after (larger_number (said b) x)
 -- A job is planned exactly when it keeps the rules, the slips are 3 at most and there is room.
 pub trembled_exactly : {b before after : List ℕ} {K : ℕ} {f : Fault} → Trembling b K before f after
     → (f.number ≡ 0) ↔ (Keeps b × (K ≤ 3) × (larger_room (said b) K ≤ length before))
-trembled_exactly {b} (refused n) = (λ e. absurd (n e), λ t. absurd (n ((kept b).1 t.0)))
-trembled_exactly (too_many e t) = (λ z. absurd (omega arith), λ u. absurd (omega (arith, u.1)))
-trembled_exactly (no_room e t l) = (λ z. absurd (omega arith), λ u. absurd (omega (arith, u.2)))
-trembled_exactly {b} (planned e t l p) = (λ z. ((kept b).0 e, t, l), λ u. refl)
+trembled_exactly {b} {before} {K = K} w = exactly K w
+  where
+    exactly : (K : ℕ) {after : List ℕ} {f : Fault} → Trembling b K before f after
+        → (f.number ≡ 0) ↔ (Keeps b × (K ≤ 3) × (larger_room (said b) K ≤ length before))
+    exactly K (refused n) = (λ e. absurd (n e), λ t. absurd (n ((kept b).1 t.0)))
+    exactly K (too_many e t) = (λ z. absurd (omega arith), λ u. absurd (omega (arith, u.1)))
+    exactly K (no_room e t l) = (λ z. absurd (omega arith), λ u. absurd (omega (arith, u.2)))
+    exactly K (planned e t l p) = (λ z. ((kept b).0 e, t, l), λ u. refl)
 
 pub trembled_right : {b before after : List ℕ} {K : ℕ} {f : Fault} → Trembling b K before f after → f.number ≡ 0 → (x : Larger Place)
     → Inside (larger_arena (said b) K) x → Right (larger_arena (said b) K) x (larger_entry b after x)
-trembled_right (refused n) z x i = absurd (n z)
-trembled_right (too_many e t) z x i = absurd (omega arith)
-trembled_right (no_room e t l) z x i = absurd (omega arith)
-trembled_right {b} {before} {K = K} (planned {p = bytes} e t l plan) z x i =
-    let L = arena_lawful b ((kept b).0 e) in
-    let (h, k) = (inside_slipping (arena (said b)) K x).0 i in
-    let (hs, hq) = (inside_iff (said b) x.at).0 h in
-    let below = number_below (said b) L K x i in
-    let long = plan.long in
-    rw (front_entry bytes (drop (larger_room (said b) K) before) (larger_number (said b) x) (omega arith))
-    (plan.right x.slips x.at.state x.at.goal k hs hq)
+trembled_right {b} {before} {K = K} w z x i = told K w z i
+  where
+    told : (K : ℕ) {after : List ℕ} {f : Fault} → Trembling b K before f after → f.number ≡ 0 → Inside (larger_arena (said b) K) x
+        → Right (larger_arena (said b) K) x (larger_entry b after x)
+    told K (refused n) z i = absurd (n z)
+    told K (too_many e t) z i = absurd (omega arith)
+    told K (no_room e t l) z i = absurd (omega arith)
+    told K (planned {p = bytes} e t l plan) z i =
+        let L = arena_lawful b ((kept b).0 e) in
+        let (h, k) = (inside_slipping (arena (said b)) K x).0 i in
+        let (hs, hq) = (inside_iff (said b) x.at).0 h in
+        let below = number_below (said b) L K x i in
+        let long = plan.long in
+        rw (front_entry bytes (drop (larger_room (said b) K) before) (larger_number (said b) x) (omega arith))
+        (plan.right x.slips x.at.state x.at.goal k hs hq)
 
 -- the answer is then 0 with no record
 pub trembled_plainly : {b before after : List ℕ} {K : ℕ} {f : Fault} → Trembling b K before f after → f.number ≡ 0 → f ≡ only 0
-trembled_plainly (refused n) z = absurd (n z)
-trembled_plainly (too_many e t) z = absurd (omega arith)
-trembled_plainly (no_room e t l) z = absurd (omega arith)
-trembled_plainly (planned e t l p) z = refl
+trembled_plainly {b} {before} {K = K} w z = plainly K w z
+  where
+    plainly : (K : ℕ) {after : List ℕ} {f : Fault} → Trembling b K before f after → f.number ≡ 0 → f ≡ only 0
+    plainly K (refused n) z = absurd (n z)
+    plainly K (too_many e t) z = absurd (omega arith)
+    plainly K (no_room e t l) z = absurd (omega arith)
+    plainly K (planned e t l p) z = refl
 
 -- and the plans are all there
 pub trembled_long : {b before after : List ℕ} {K : ℕ} {f : Fault} → Trembling b K before f after → f.number ≡ 0
     → larger_room (said b) K ≤ length after
-trembled_long (refused n) z = absurd (n z)
-trembled_long (too_many e t) z = absurd (omega arith)
-trembled_long (no_room e t l) z = absurd (omega arith)
-trembled_long {b} {before} {K = K} (planned {p} e t l plan) z =
-    omega (arith, plan.long, length-append p (drop (larger_room (said b) K) before))
+trembled_long {b} {before} {K = K} w z = long K w z
+  where
+    long : (K : ℕ) {after : List ℕ} {f : Fault} → Trembling b K before f after → f.number ≡ 0 → larger_room (said b) K ≤ length after
+    long K (refused n) z = absurd (n z)
+    long K (too_many e t) z = absurd (omega arith)
+    long K (no_room e t l) z = absurd (omega arith)
+    long K (planned {p} e t l plan) z = omega (arith, plan.long, length-append p (drop (larger_room (said b) K) before))
 
 module _ {b before after : List ℕ} {K : ℕ} (done : Trembling b K before (only 0) after) where
   keeps : Keeps b

@@ -108,9 +108,9 @@ labelled_both {b} k w h =
       rest = holds_rest h.holds;
     }
 
--- ---- round S-as-Q
+-- ---- round S·Q
 
--- Round S-as-Q can never add a place: a round that adds one, of winning or of hope after winning has settled, has a number below S-as-Q.
+-- Round S·Q can never add a place: a round that adds one, of winning or of hope after winning has settled, has a number below S·Q.
 pub no_round : {b before ws plan : List ℕ} → Keeps b → (w : WonOf b before ws plan) → (k : ℕ) (p : Place) → Inside (arena (said b)) p
     → (wins_by (arena (said b)) k p ≡ false → wins_by (arena (said b)) (suc k) p ≡ true → suc k < places (said b))
     × (hopes_by (arena (said b)) w.rounds k p ≡ false → hopes_by (arena (said b)) w.rounds (suc k) p ≡ true → suc k < places (said b))

@@ -41,7 +41,7 @@ pub record Settled (j : Job) (v : Phase) (f : Place → Bool) (e : Place → Ent
   pub holds : Holds j (reached v (arena j) f rounds) (written v (arena j) f e rounds) before ws plan
   pub last : (p : Place) → Inside (arena j) p → reached v (arena j) f (suc rounds) p ≡ true → reached v (arena j) f rounds p ≡ true
 
--- a set has no place from S-as-Q on
+-- a set has no place from S·Q on
 abbrev pub NonePast : Job → List ℕ → Type 0
 NonePast j ws = (x : ℕ) → places j ≤ x → member ws x ≡ false
 

@@ -3,7 +3,7 @@ ghost use Rattle.std.specs.Prelude.{◌≡◌};
 ghost use Rattle.phases.specs.Wanted.{phase_value};
 
 // What a phase labels.
-#[derive(Drop)]
+#[derive(Clone, Copy)]
 pub enum Phase {
     Winning,
     Pending,

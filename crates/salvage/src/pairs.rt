@@ -61,7 +61,7 @@ fn is_bad(job: &[u8], l: Layout, begin: usize) -> bool
 }
 
 // What a pass finds of a record: whether it is the first of its pair, and whether the pair is bad.
-#[derive(Drop)]
+#[derive(Clone, Copy)]
 pub struct Turn {
     pub first: bool,
     pub bad: bool,

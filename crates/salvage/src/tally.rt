@@ -6,7 +6,7 @@ ghost use Rattle.salvage.specs.Passes.{Added, Tallied};
 use crate::pairs::{Turn, look};
 use job::layout::Layout;
 
-#[derive(Drop)]
+#[derive(Clone, Copy)]
 pub struct Tally {
     pub kept: usize,
     pub listed: usize,

@@ -10,7 +10,7 @@ use job::layout::{Layout, Reading};
 use rules::answer::Refusal;
 
 // What salvaging answers: the lengths of the salvaged job and of the list of pairs, or why not.
-#[derive(Drop)]
+#[derive(Clone, Copy)]
 pub enum Salvaged {
     Done {
         job_length: usize,

@@ -15,7 +15,7 @@ use phases::phase::Phase;
 use sets::actions::{ActionSet, LowestAction};
 
 // Two tallies of a place: with the slips that are left, and with one fewer.
-#[derive(Drop)]
+#[derive(Clone, Copy)]
 pub struct Tallies {
     pub own: Tally,
     pub less: Tally,

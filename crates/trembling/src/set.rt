@@ -8,7 +8,7 @@ pub const WORDS: usize = 1024;
 
 pub const ROOM: usize = 64 * WORDS;
 
-#[derive(Drop)]
+#[derive(Clone, Copy)]
 pub struct LargerSet {
     pub words: [u64; WORDS],
 }

@@ -1,0 +1,19 @@
+-- `one_round` meets its contract: each turn is the pass over the places of one state more.
+use Prim.Native.Nat.{◌*◌, ◌-◌, ◌≤◌}
+use mathlib.Core.Path.{◌≡◌}
+use lib.ListN.{length}
+use Rattle.rules.specs.Bytes.{said}
+use Rattle.phases.specs.Round.{Passed}
+use Rattle.labelling.specs.Scan.{From}
+use Rattle.sets.specs.Sets.{set_words}
+use Rattle.labelling.proofs.round.one_round.Given as goal
+
+abbrev pub invariant-loop-s : goal.invariant-loop-s
+invariant-loop-s l =
+    (l.s ≤ l.states)
+    × From (said l.job) l.s l.start
+    × (length l.initial.new ≡ set_words)
+    × Passed l.job l.l l.phase l.number l.set.words 0 (l.s * l.l.goals) l.initial.new l.initial.plan l.new l.plan
+
+abbrev pub decreases-loop-s : goal.decreases-loop-s
+decreases-loop-s l = l.states - l.s

@@ -1,0 +1,14 @@
+-- `scan` meets its contract: the tally is that of the records passed.
+use Prim.Native.Nat.{◌-◌, ◌≤◌}
+use Rattle.rules.specs.Job.{place}
+use Rattle.rules.specs.Bytes.{said}
+use Rattle.phases.specs.Wanted.{in_set}
+use Rattle.labelling.proofs.Scanning.{Scanning}
+use Rattle.labelling.proofs.scan.scan.Given as goal
+
+abbrev pub invariant-loop-k : goal.invariant-loop-k
+invariant-loop-k l =
+    (l.start ≤ l.k) × (l.k ≤ l.end) × Scanning (said l.job) (in_set l.l.goals l.words) (place l.s l.q) l.k l.x
+
+abbrev pub decreases-loop-k : goal.decreases-loop-k
+decreases-loop-k l = l.end - l.k
