@@ -1,6 +1,6 @@
 -- The loop of calls with slips of the arm, on plans that planning left: no call is refused, turn by turn it makes the play of whoever follows the
 -- plans, and from where advice says winning the goal is met in time, whatever the cabinet does within the rules.
-use Prim.Native.Nat.{ℕ, zero, suc, ◌+◌, ◌-◌, ◌≤◌, ◌<◌}
+use Prim.Native.Nat.{ℕ, zero, suc, ◌+◌, ◌≤◌, ◌<◌}
 use mathlib.Core.List.{List}
 use mathlib.Core.Logic.{inl, inr, ◌↔◌}
 use mathlib.Core.Path.{◌≡◌, refl, sym, ap, ◌∙◌, subst}

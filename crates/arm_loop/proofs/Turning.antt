@@ -13,7 +13,7 @@ use Rattle.game.specs.Game.{advance, run, Obeys, Follows, Right, met}
 use Rattle.game.specs.declared.entry.Entry.{Entry}
 use Rattle.rules.specs.Job.{place, recorded, arena}
 use Rattle.rules.specs.Fault.{only}
-use Rattle.rules.specs.Bytes.{refusal, said}
+use Rattle.rules.specs.Bytes.{said}
 use Rattle.rules.specs.Keeps.{Keeps}
 use Rattle.rules.specs.Answers.{MovedFigures}
 use Rattle.rules.specs.Calls.{followed, advice_of}

@@ -6,7 +6,7 @@ use mathlib.Core.Bool.{cond, not, and-true}
 use mathlib.Core.List.{List}
 use mathlib.Core.Logic.{◌⊎◌, inl, inr, ◌≢◌}
 use mathlib.Core.Path.{◌≡◌, refl, sym, ◌∙◌, subst}
-use native.Mathlib.Nat.{one-mul, zero-mul, zero_add}
+use native.Mathlib.Nat.{one-mul, zero-mul, zero-add}
 use borrow.Author.Tests.{eq-eqb, ne_eqb, lt-ltb, le-ltb}
 use lib.Dec.{ltb, eqb}
 use lib.ListN.{length}
@@ -54,7 +54,7 @@ pub slips_range : {b before after : List ℕ} {K : ℕ} (r : PlannedFigures) →
     → Told OfSlips (figures_planned r)
 slips_range r t = go t
   where
-    go : {b before after : List ℕ} {K : ℕ} {f : Fault} → Trembling b K before f after → Told OfSlips f
+    go : {b before : List ℕ} {K : ℕ} {after : List ℕ} {f : Fault} → Trembling b K before f after → Told OfSlips f
     go {b} (refused n) = of_bytes b (λ n h. inl (inl h))
     go (too_many e m) = alone 18 (inr refl)
     go (no_room e m l) = alone 7 (inl (inr refl))
@@ -66,7 +66,7 @@ slips_fault b K before =
     cond (not (eqb (refusal b) 0)) (fault b)
     (cond (ltb 3 K) (only 18) (cond (ltb (length before) (larger_room (said b) K)) (only 7) (only 0)))
 
-pub slips_refuses : {b before after : List ℕ} {K : ℕ} {f : Fault} → Trembling b K before f after
+pub slips_refuses : {b before : List ℕ} {K : ℕ} {after : List ℕ} {f : Fault} → Trembling b K before f after
     → (f ≡ slips_fault b K before) × ((f.number ≡ 0 → ⊥) → after ≡ before)
 slips_refuses {b} (refused n) = (rw (ne_eqb (refusal b) 0 n), λ z. refl)
 slips_refuses {b} {K = K} (too_many e m) = (rw (eq-eqb (refusal b) 0 e, lt-ltb 3 K m), λ z. refl)
@@ -131,7 +131,7 @@ module _ (b : List ℕ) (K : ℕ) (p : List ℕ) (s q k : ℕ) where
 pub slips_advice_today : (b p : List ℕ) (s q : ℕ) → advised_slips b 0 p s q 0 ≡ advised b p s q
 slips_advice_today b p s q =
     let first : larger_number (said b) (larger 0 (place s q)) ≡ entry_number (said b).goals (place s q) =
-    rw (zero-mul (places (said b))) (zero_add _) in
+    rw (zero-mul (places (said b))) (zero-add _) in
     rw (first, one-mul (places (said b)), and-true (is_place (said b) s q))
 
 -- What advice answers of each larger place of plans just made is the plans' entry: it is never refused.

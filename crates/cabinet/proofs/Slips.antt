@@ -35,7 +35,7 @@ unfolding figures
 goal_unique r r' x y = let (e, n, a) = writing_unique x y in (ap₂ figures e n, a)
 
 -- It answers the first number that applies, and where that is not 0, the length is 0 and the buffer stays as it was.
-pub goal_refuses : {s before after : List ℕ} {p r n : ℕ} → Writing s p before r n after
+pub goal_refuses : {s before : List ℕ} {p : ℕ} {after : List ℕ} {r n : ℕ} → Writing s p before r n after
     → (r ≡ slips_refusal s p (length before)) × ((r ≡ 0 → ⊥) → (n ≡ 0) × (after ≡ before))
 goal_refuses (refused h) = (refl, λ z. (refl, refl))
 goal_refuses (written e x) = (sym e, λ z. absurd (z refl))

@@ -8,8 +8,7 @@ use crate::calls::{AdvisedFigures, PlannedFigures};
 use rules::answer::Planned;
 
 // Plans a job for up to so many slips into a buffer: a plan for each count of slips left, slips 0 first.
-#[unsafe(no_mangle)]
-pub extern "C" fn cabinet_plan_slips(job: &[u8], slips: u32, plan: &mut [u8]) -> PlannedFigures
+pub fn cabinet_plan_slips(job: &[u8], slips: u32, plan: &mut [u8]) -> PlannedFigures
     ensures { Trembling job.now slips plan.old (figures_planned result) plan.new }
 {
     match trembling::plan::plan_slips(job, slips, plan) {
@@ -25,8 +24,7 @@ pub extern "C" fn cabinet_plan_slips(job: &[u8], slips: u32, plan: &mut [u8]) ->
 }
 
 // Looks up what plans for up to so many slips say of a place with so many slips left.
-#[unsafe(no_mangle)]
-pub extern "C" fn cabinet_advice_slips(
+pub fn cabinet_advice_slips(
     job: &[u8],
     slips: u32,
     plan: &[u8],

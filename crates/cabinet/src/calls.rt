@@ -9,14 +9,14 @@ use crate::place::{Moved, Place};
 use rules::answer::{Advised, Planned};
 
 #[repr(C)]
-#[derive(Drop)]
+#[derive(Clone, Copy)]
 pub struct PlannedFigures {
     pub refusal: u32,
     pub record: u32,
 }
 
 #[repr(C)]
-#[derive(Drop)]
+#[derive(Clone, Copy)]
 pub struct MovedFigures {
     pub refusal: u32,
     pub state: u32,
@@ -25,7 +25,7 @@ pub struct MovedFigures {
 }
 
 #[repr(C)]
-#[derive(Drop)]
+#[derive(Clone, Copy)]
 pub struct AdvisedFigures {
     pub refusal: u32,
     pub value: u32,
@@ -81,8 +81,7 @@ pub fn of_advised(r: Advised) -> AdvisedFigures
 }
 
 // Plans a job into a buffer.
-#[unsafe(no_mangle)]
-pub extern "C" fn cabinet_plan(job: &[u8], plan: &mut [u8]) -> PlannedFigures
+pub fn cabinet_plan(job: &[u8], plan: &mut [u8]) -> PlannedFigures
     ensures { Planning job.now plan.old (figures_planned result) plan.new }
 {
     match labelling::plan::plan(job, plan) {
@@ -98,30 +97,21 @@ pub extern "C" fn cabinet_plan(job: &[u8], plan: &mut [u8]) -> PlannedFigures
 }
 
 // Finds the starting place.
-#[unsafe(no_mangle)]
-pub extern "C" fn cabinet_start(job: &[u8]) -> MovedFigures
+pub fn cabinet_start(job: &[u8]) -> MovedFigures
     ensures { figures_moved result ≡ started job.now }
 {
     of_moved(Place { state: 0, goal: 0 }.start(job))
 }
 
 // Follows one observed move.
-#[unsafe(no_mangle)]
-pub extern "C" fn cabinet_follow(
-    job: &[u8],
-    state: u32,
-    goal: u32,
-    action: u32,
-    outcome: u32,
-) -> MovedFigures
+pub fn cabinet_follow(job: &[u8], state: u32, goal: u32, action: u32, outcome: u32) -> MovedFigures
     ensures { figures_moved result ≡ followed job.now state goal action outcome }
 {
     of_moved(Place { state, goal }.follow(job, action, outcome))
 }
 
 // Looks up what a plan says of a place.
-#[unsafe(no_mangle)]
-pub extern "C" fn cabinet_advice(job: &[u8], plan: &[u8], state: u32, goal: u32) -> AdvisedFigures
+pub fn cabinet_advice(job: &[u8], plan: &[u8], state: u32, goal: u32) -> AdvisedFigures
     ensures { figures_advised result ≡ advised job.now plan.now state goal }
 {
     of_advised(Place { state, goal }.advice(job, plan))

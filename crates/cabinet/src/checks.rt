@@ -5,7 +5,7 @@ ghost use Rattle.cabinet.specs.Checks.{figures_checked};
 use checking::check::Checked;
 
 #[repr(C)]
-#[derive(Drop)]
+#[derive(Clone, Copy)]
 pub struct CheckedFigures {
     pub refusal: u32,
     pub state: u32,
@@ -14,8 +14,7 @@ pub struct CheckedFigures {
 }
 
 // Checks a plan against a job: right is 0, and 16 comes with the lowest place whose entry is wrong.
-#[unsafe(no_mangle)]
-pub extern "C" fn cabinet_check(job: &[u8], plan: &[u8]) -> CheckedFigures
+pub fn cabinet_check(job: &[u8], plan: &[u8]) -> CheckedFigures
     ensures { Checks job.now plan.now (figures_checked result) }
 {
     match checking::check::check(job, plan) {

@@ -6,8 +6,7 @@ use crate::calls::PlannedFigures;
 use rules::answer::Planned;
 
 // Plans a job into a buffer by the second engine.
-#[unsafe(no_mangle)]
-pub extern "C" fn cabinet_plan_indexed(
+pub fn cabinet_plan_indexed(
     job: &[u8],
     plan: &mut [u8],
     index: &mut [u16],

@@ -1,4 +1,6 @@
 // The calls for C, and the place that a caller holds.
+#![tactic(auto)]
+
 pub mod arm;
 pub mod calls;
 pub mod checks;

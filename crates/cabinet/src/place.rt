@@ -13,14 +13,14 @@ use rules::answer::{Advised, Refusal};
 use rules::entry::Shape;
 
 // A place as a caller holds it: two figures of any value.
-#[derive(Drop)]
+#[derive(Clone, Copy)]
 pub struct Place {
     pub state: u32,
     pub goal: u32,
 }
 
 // What starting and following answer: the place moved, with the number of the record that was followed (starting has 0), or why not.
-#[derive(Drop)]
+#[derive(Clone, Copy)]
 pub enum Moved {
     To { place: Place, record: u32 },
     Refused(Refusal),

@@ -5,7 +5,7 @@ ghost use Rattle.salvage.specs.Salvage.{Salvaging};
 use salvage::tool::Salvaged;
 
 #[repr(C)]
-#[derive(Drop)]
+#[derive(Clone, Copy)]
 pub struct SalvagedFigures {
     pub refusal: u32,
     pub job_length: u32,
@@ -14,12 +14,7 @@ pub struct SalvagedFigures {
 }
 
 // Salvages a job into a buffer, and lists the removed pairs in another.
-#[unsafe(no_mangle)]
-pub extern "C" fn cabinet_salvage(
-    job: &[u8],
-    salvaged: &mut [u8],
-    pairs: &mut [u8],
-) -> SalvagedFigures
+pub fn cabinet_salvage(job: &[u8], salvaged: &mut [u8], pairs: &mut [u8]) -> SalvagedFigures
     ensures { Salvaging job.now salvaged.old pairs.old
         (with_record result.refusal result.«record») result.job_length result.pairs_length salvaged.new pairs.new }
 {
