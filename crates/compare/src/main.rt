@@ -1,4 +1,6 @@
 // The check for people: a job and a plan by the names of their files, and on standard output whether the plan is right.
+#![tactic(auto)]
+
 ghost use Rattle.std.specs.Prelude.{take};
 ghost use Rattle.io.specs.Counts.{IsPrefixLen};
 ghost use Rattle.rules.specs.Fault.{only};
@@ -11,12 +13,19 @@ use checking::check::{Checked, PLAN_ROOM};
 use game::entry::Entry;
 use job::layout::{Layout, Reading};
 use rules::answer::Planned;
+use std::env::{Env, FillError};
+use std::io::Read;
+use std::rt::Files;
+use std::{fs, str};
 
 // How much of a job's file is taken in: more than the longest job, so that a longer one is refused.
 const JOB_ROOM: usize = 49152;
 
 // The longest line has at most 60 bytes.
 const ROOM: usize = 64;
+
+// The longest name of a file that the system takes.
+const PATH_ROOM: usize = 4096;
 
 // The value of an entry: its word, or the figure where it is none of the three.
 fn put_said_value(out: &mut [u8], at: usize, value: u8) -> usize
@@ -101,68 +110,113 @@ fn tell_whole(out: &mut [u8; ROOM], job: &[u8], plan: &[u8]) -> usize
 }
 
 // Writes the line that is to be printed of the job and the plan: what is handed over here is what the program prints.
-fn print(job: &[u8], plan: &[u8], text: &[u8])
+fn print(rt: &impl Print, job: &[u8], plan: &[u8], text: &[u8])
     requires { Tells job.now plan.now text.now }
 {
-    io::write_all(libc::STDOUT_FILENO, text);
+    let _ = rt.write_all(text);
+}
+
+// Reads until the buffer is full, the input ends or a read fails, and answers how many bytes stand at its beginning.
+fn read_full<R: Read>(input: &mut R, buffer: &mut [u8]) -> usize
+    ensures { IsPrefixLen result buffer.new }
+{
+    let mut done: usize = 0;
+    while done < buffer.len() {
+        let Ok(n) = input.read(&mut buffer[done..]) else {
+            return done;
+        };
+        if n == 0 {
+            return done;
+        }
+        done += n;
+    }
+    done
+}
+
+// Whether there is an argument i, of whatever length.
+fn has_arg(rt: &impl Env, i: usize) -> bool {
+    let mut first = [0u8; 1];
+    match rt.arg(i, &mut first) {
+        Ok(_) => true,
+        Err(FillError::TooLong) => true,
+        Err(FillError::NotPresent) => false,
+    }
+}
+
+// Puts argument i at the beginning of the buffer, and answers how long it is: 0 where the buffer has no room for it.
+fn put_arg(rt: &impl Env, i: usize, path: &mut [u8]) -> usize
+    ensures { IsPrefixLen result path.new }
+{
+    let Ok(k) = rt.arg(i, path) else {
+        return 0;
+    };
+    k
 }
 
 // Says on standard error what has gone wrong with the file that argument i names.
-fn say_why(i: usize, error: &[u8]) {
-    let mut path = io::buffer();
-    let k = os::arg(i, &mut path);
-    io::write_all(libc::STDERR_FILENO, b"cabinet-check: ");
-    io::write_all(libc::STDERR_FILENO, &path[..k]);
-    io::write_all(libc::STDERR_FILENO, error);
+fn say_why(rt: &impl Env, err: &impl Print, i: usize, error: &[u8]) {
+    let mut path = [0u8; PATH_ROOM];
+    let k = put_arg(rt, i, &mut path);
+    let _ = err.write_all(b"cabinet-check: ");
+    let _ = err.write_all(&path[..k]);
+    let _ = err.write_all(error);
 }
 
-// Opens the file that argument i names, or says that it can not be, and answers a number below 0.
-fn open_named(i: usize) -> i32 {
-    let mut path = io::buffer();
-    let k = os::arg(i, &mut path);
-    let file = os::open_read(&path[..k]);
-    if file < 0 {
-        say_why(i, b": cannot be opened\n");
-    }
-    file
+// Opens the file of this name, which std takes as UTF-8.
+fn open<R: Files>(rt: &R, path: &[u8]) -> Option<R::File> {
+    let Ok(name) = str::from_utf8(path) else {
+        return None;
+    };
+    let Ok(file) = fs::open(rt, name) else {
+        return None;
+    };
+    Some(file)
+}
+
+// Opens the file that argument i names, or says that it can not be.
+fn open_named<R: Files + Env>(rt: &R, err: &impl Print, i: usize) -> Option<R::File> {
+    let mut path = [0u8; PATH_ROOM];
+    let k = put_arg(rt, i, &mut path);
+    let Some(file) = open(rt, &path[..k]) else {
+        say_why(rt, err, i, b": cannot be opened\n");
+        return None;
+    };
+    Some(file)
 }
 
 // Whether the file was read without a fault, up to where one more read is tried; it is closed.
-fn was_read(file: i32, i: usize) -> bool {
+fn was_read<F: Read + Drop>(rt: &impl Env, err: &impl Print, mut file: F, i: usize) -> bool {
     let mut more = [0u8; 1];
-    let got = libc::read(file, &mut more);
-    libc::close(file);
-    if got < 0 {
-        say_why(i, b": cannot be read\n");
+    let Ok(_) = file.read(&mut more) else {
+        say_why(rt, err, i, b": cannot be read\n");
         return false;
-    }
+    };
     true
 }
 
-fn main() {
-    if os::arg_count() != 3 {
-        io::write_all(libc::STDERR_FILENO, b"usage: cabinet-check JOB PLAN\n");
+fn main(rt: HostRuntime) {
+    let err = rt.stderr();
+    if !has_arg(&rt, 2) || has_arg(&rt, 3) {
+        let _ = err.write_all(b"usage: cabinet-check JOB PLAN\n");
         return;
     }
-    let job_file = open_named(1);
-    if job_file < 0 {
+    let Some(mut job_file) = open_named(&rt, &err, 1) else {
         return;
-    }
+    };
     let mut job = [0u8; JOB_ROOM];
-    let n = io::read_full(job_file, &mut job);
-    if !was_read(job_file, 1) {
+    let n = read_full(&mut job_file, &mut job);
+    if !was_read(&rt, &err, job_file, 1) {
         return;
     }
-    let plan_file = open_named(2);
-    if plan_file < 0 {
+    let Some(mut plan_file) = open_named(&rt, &err, 2) else {
         return;
-    }
+    };
     let mut plan = [0u8; PLAN_ROOM];
-    let m = io::read_full(plan_file, &mut plan);
-    if !was_read(plan_file, 2) {
+    let m = read_full(&mut plan_file, &mut plan);
+    if !was_read(&rt, &err, plan_file, 2) {
         return;
     }
     let mut out = [0u8; ROOM];
     let k = tell_whole(&mut out, &job[..n], &plan[..m]);
-    print(&job[..n], &plan[..m], &out[..k]);
+    print(&rt, &job[..n], &plan[..m], &out[..k]);
 }

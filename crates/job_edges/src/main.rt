@@ -1,4 +1,6 @@
 // The edges of reading a job: each line of standard input names a job and says its bytes, and the answer is how it was read.
+#![tactic(auto)]
+
 mod bytes;
 mod made;
 mod said;
@@ -8,36 +10,35 @@ ghost use Rattle.std.specs.Prelude.{◌<◌, ◌≤◌, length};
 use job::layout::Reading;
 use made::make;
 use rules::answer::Refusal;
+use std::io::Read;
 
 // The answer to a line. One that says no job is told as well, so that no case is lost unseen.
-#[derive(Drop)]
+#[derive(Clone, Copy)]
 enum Answer {
     Read,
     Refused(Refusal),
     BadLine,
 }
 
-fn write(text: &[u8]) {
-    io::write_all(libc::STDOUT_FILENO, text);
+fn write(rt: &impl Print, text: &[u8]) {
+    let _ = rt.write_all(text);
 }
 
 // The number, and after 12 and 13, which of those that reading gives are the ones above 11, the record.
-fn say_refused(why: Refusal) {
+fn say_refused(rt: &impl Print, why: Refusal) {
     let number = why.number();
-    write(b" refused ");
-    io::print_decimal(libc::STDOUT_FILENO, number as u64);
     if number > 11 {
-        write(b" ");
-        io::print_decimal(libc::STDOUT_FILENO, why.record() as u64);
+        let _ = println!(rt; " refused {} {}", number, why.record());
+    } else {
+        let _ = println!(rt; " refused {}", number);
     }
-    write(b"\n");
 }
 
-fn say(answer: Answer) {
+fn say(rt: &impl Print, answer: Answer) {
     match answer {
-        Answer::Read => write(b" read\n"),
-        Answer::Refused(why) => say_refused(why),
-        Answer::BadLine => write(b" bad line\n"),
+        Answer::Read => write(rt, b" read\n"),
+        Answer::Refused(why) => say_refused(rt, why),
+        Answer::BadLine => write(rt, b" bad line\n"),
     }
 }
 
@@ -76,7 +77,7 @@ fn past(text: &[u8], from: usize, byte: u8) -> usize
 }
 
 // A name and a colon, and then words. A line that is empty or starts with # says nothing.
-fn line(text: &[u8])
+fn line(rt: &impl Print, text: &[u8])
     requires { 0 < length text.now }
 {
     let first = text[0];
@@ -87,25 +88,42 @@ fn line(text: &[u8])
         return;
     }
     let words = past(text, 0, b':');
-    write(&text[0..words]);
-    say(answer_to(&text[words..]));
+    write(rt, &text[0..words]);
+    say(rt, answer_to(&text[words..]));
 }
 
-fn lines(text: &[u8]) {
+fn lines(rt: &impl Print, text: &[u8]) {
     let mut at: usize = 0;
     while at < text.len() {
         let next = past(text, at, b'\n');
-        line(&text[at..next]);
+        line(rt, &text[at..next]);
         at = next;
     }
 }
 
+// Reads until the buffer is full, the input ends or a read fails, and answers how many bytes stand at its beginning.
+fn read_full<R: Read>(input: &mut R, buffer: &mut [u8]) -> usize
+    ensures { result ≤ length buffer.new }
+{
+    let mut done: usize = 0;
+    while done < buffer.len() {
+        let Ok(n) = input.read(&mut buffer[done..]) else {
+            return done;
+        };
+        if n == 0 {
+            return done;
+        }
+        done += n;
+    }
+    done
+}
+
 // Where the text has no room left, lines may have been lost.
-fn main() {
+fn main(rt: HostRuntime) {
     let mut text = [0u8; 16384];
-    let n = io::read_full(libc::STDIN_FILENO, &mut text);
-    lines(&text[..n]);
+    let n = read_full(&mut rt.stdin(), &mut text);
+    lines(&rt, &text[..n]);
     if n == 16384 {
-        say(Answer::BadLine);
+        say(&rt, Answer::BadLine);
     }
 }

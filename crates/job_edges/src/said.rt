@@ -7,7 +7,7 @@ use crate::bytes::{bare, plate, record, tall_bare, tall_plate, tall_record};
 const NONE: u16 = 65535;
 
 // A word is a sign with a number after it, and one before it, which is 0 where it is left out. Before its sign a word has a space for one.
-#[derive(Drop)]
+#[derive(Clone, Copy)]
 pub struct Said {
     pub sign: u8,
     pub before: u16,

@@ -2,7 +2,6 @@
 use mathlib.Core.Bool.{false}
 use mathlib.Core.List.{[], ◌∷◌}
 use mathlib.Core.Path.{◌≡◌, refl}
-use Rattle.bytes.specs.Bytes.{index_of, index_after}
 use Rattle.text.specs.Lines.{bytes}
 use Rattle.judge.specs.Lines.{is_list, numbers_from, numbers, first_line, after_line}
 
@@ -27,5 +26,4 @@ no_list_signed = refl
 
 pub two_lines : (first_line (bytes "12\n34\n") ≡ bytes "12") × (first_line (after_line (bytes "12\n34\n")) ≡ bytes "34")
     × (after_line (after_line (bytes "12\n34\n")) ≡ [])
-unfolding index_of index_after
 two_lines = (refl, refl, refl)

@@ -11,7 +11,6 @@ use lib.Dec.{leb}
 use lib.ListN.{length, get_or, take, drop, length-take, length-drop, drop_of_length-le}
 use lib.Seq.{take_all, drop-cons, length-take-le, take-append_seam}
 use Rattle.io.specs.Counts.{IsPrefixLen}
-use Rattle.bytes.specs.Bytes.{slice, index_of}
 use Rattle.game.proofs.Tests.{and_iff}
 use Rattle.text.specs.PutText.{PutText}
 use Rattle.text.proofs.Putting.{put_none, put_then, put_length}
@@ -101,10 +100,6 @@ grown_small v c e h = rw e (omega arith)
 
 pub grown_large : (v c : ℕ) → digit c ≡ true → 255 ≤ v * 10 + (c - 48) → 255 ≡ capped (grown v c)
 grown_large v c e h = rw e (omega arith)
-
-pub index_whole : (b : List ℕ) → 0 + index_of 10 (slice 0 (length b) b) ≡ index_of 10 b
-unfolding slice
-index_whole b = let e : index_of 10 (take (length b) b) ≡ index_of 10 b = ap (index_of 10) (take_all (length b) b (omega arith)) in omega arith
 
 pub drop_past : (b : List ℕ) (e : ℕ) → length b ≤ e → drop e b ≡ drop (suc e) b
 drop_past b e h = let l : length b ≤ suc e = omega arith in drop_of_length-le b h ∙ sym (drop_of_length-le b l)

@@ -7,7 +7,6 @@ use mathlib.Core.Path.{◌≡◌, refl, sym, ap, ap₂, ◌∙◌, subst, subst�
 use native.Mathlib.Omega.{arith}
 use lib.Dec.{eqb}
 use lib.ListN.{length, take, drop, length-append, length-drop, drop_of_length-le}
-use Rattle.bytes.specs.Bytes.{index_of}
 use Rattle.io.specs.Counts.{IsPrefixLen}
 use Rattle.game.proofs.Search.{clash}
 use Rattle.text.specs.PutText.{PutText}
@@ -17,7 +16,7 @@ use Rattle.text.proofs.Lengths.{put_front}
 use Rattle.judging.specs.declared.run.Judged.{Judged}
 use Rattle.judging.specs.Judging.{judged_refusal, judged_holds, Judging, trace_bad, formula_bad, too_deep, label_bad, yes, no}
 use Rattle.judging.proofs.Answers.{judging_unique}
-use Rattle.judge.specs.Lines.{is_list, numbers, first_line, after_line, capped}
+use Rattle.judge.specs.Lines.{is_list, numbers, index_of, first_line, after_line, capped}
 use Rattle.judge.specs.Tells.{input_room, figures_line, TellsLines, first_is_none, second_is_none, judged, Tells, too_long, more_lines, lines}
 use Rattle.judge.specs.Tells.{ToldLines, Told}
 use Rattle.judge.proofs.Scanning.{put_kept}

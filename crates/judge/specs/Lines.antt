@@ -1,6 +1,6 @@
 -- Lines of numbers: decimal numbers with blanks between them.
 use Rattle.std.specs.Prelude.{ℕ, suc, ◌+◌, ◌-◌, ◌*◌, min, Bool, false, cond, ◌&&◌, ◌||◌, List, [], ◌∷◌, ◌++◌, leb, eqb, length, get_or, take, drop}
-use Rattle.bytes.specs.Bytes.{index_of}
+use Rattle.std.specs.List.{position_or_len}
 use Rattle.game.specs.Below.{every_below}
 
 abbrev pub digit : ℕ → Bool
@@ -34,6 +34,10 @@ numbers_from inside n (c ∷ cs) = ended inside n c ++ numbers_from (digit c) (g
 -- the numbers of a line
 abbrev pub numbers : List ℕ → List ℕ
 numbers w = numbers_from false 0 w
+
+-- the place of the first c, or the length where there is none
+abbrev pub index_of : ℕ → List ℕ → ℕ
+index_of c b = position_or_len (λ x. eqb x c) b
 
 -- the first line, without its line feed; what comes after it
 abbrev pub first_line : List ℕ → List ℕ

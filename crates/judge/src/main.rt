@@ -1,10 +1,13 @@
 // The judge for people: a line with a formula's numbers and a line with a trace's on standard input, and on standard output whether it holds.
+#![tactic(auto)]
+
 ghost use Rattle.std.specs.Prelude.{suc, ◌≤◌, ◌||◌, map, ◌≡◌, length, take, drop};
 ghost use Rattle.io.specs.Counts.{IsPrefixLen};
-ghost use Rattle.bytes.specs.Bytes.{index_of};
 ghost use Rattle.text.specs.PutText.{PutText};
-ghost use Rattle.judge.specs.Lines.{digit, blank, is_list, held, ended, grown, numbers, capped};
+ghost use Rattle.judge.specs.Lines.{digit, blank, is_list, held, ended, grown, numbers, index_of, capped};
 ghost use Rattle.judge.specs.Tells.{figures_line, ToldLines, Tells, Told};
+
+use std::io::Read;
 
 // How much of the input is taken in: an input that fills it may go on, and is not judged by its beginning.
 const INPUT_ROOM: usize = 262144;
@@ -149,7 +152,14 @@ fn line_end(text: &[u8]) -> usize
     ensures prefix_len { IsPrefixLen result text.now }
     ensures value { result ≡ index_of 10 text.now }
 {
-    bytes::scan::find(text, 0, text.len(), b'\n')
+    let mut i: usize = 0;
+    while i < text.len() {
+        if text[i] == b'\n' {
+            return i;
+        }
+        i += 1;
+    }
+    i
 }
 
 // Where the line after one that ends there begins.
@@ -190,17 +200,34 @@ fn tell_whole(out: &mut [u8; ROOM], input: &[u8]) -> usize
     tell(out, input)
 }
 
-// Writes the line that is to be printed of the input: what is handed over here is what the program prints.
-fn print(input: &[u8], text: &[u8])
-    requires { Tells input.now text.now }
+// Reads until the buffer is full, the input ends or a read fails, and answers how many bytes stand at its beginning.
+fn read_full<R: Read>(input: &mut R, buffer: &mut [u8]) -> usize
+    ensures { IsPrefixLen result buffer.new }
 {
-    io::write_all(libc::STDOUT_FILENO, text);
+    let mut done: usize = 0;
+    while done < buffer.len() {
+        let Ok(n) = input.read(&mut buffer[done..]) else {
+            return done;
+        };
+        if n == 0 {
+            return done;
+        }
+        done += n;
+    }
+    done
 }
 
-fn main() {
+// Writes the line that is to be printed of the input: what is handed over here is what the program prints.
+fn print(rt: &impl Print, input: &[u8], text: &[u8])
+    requires { Tells input.now text.now }
+{
+    let _ = rt.write_all(text);
+}
+
+fn main(rt: HostRuntime) {
     let mut input = [0u8; INPUT_ROOM];
-    let n = io::read_full(libc::STDIN_FILENO, &mut input);
+    let n = read_full(&mut rt.stdin(), &mut input);
     let mut out = [0u8; ROOM];
     let k = tell_whole(&mut out, &input[..n]);
-    print(&input[..n], &out[..k]);
+    print(&rt, &input[..n], &out[..k]);
 }

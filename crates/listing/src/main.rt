@@ -1,4 +1,6 @@
 // The listing: a job on standard input, and what its plan says of each place on standard output.
+#![tactic(auto)]
+
 ghost use Rattle.std.specs.Prelude.{◌++◌, take, replicate};
 ghost use Rattle.io.specs.Counts.{IsPrefixLen};
 ghost use Rattle.game.specs.Below.{upto, each};
@@ -9,6 +11,7 @@ ghost use Rattle.listing.specs.Told.{valued_line, started_line, advised_line, Pr
 use cabinet::place::{Moved, Place};
 use job::layout::Reading;
 use rules::answer::{Advised, Planned};
+use std::io::Read;
 
 // The longest text: 16,384 lines of at most 24 bytes, and the first of at most 21.
 const ROOM: usize = 393237;
@@ -126,18 +129,35 @@ fn list_whole(out: &mut [u8; ROOM], job: &[u8], plan: &mut [u8]) -> usize
     list(out, job, plan)
 }
 
-// Writes the text that is to be printed of the job: what is handed over here is what the listing prints.
-fn print(job: &[u8], text: &[u8])
-    requires { Prints job.now (replicate 65536 0) text.now }
+// Reads until the buffer is full, the input ends or a read fails, and answers how many bytes stand at its beginning.
+fn read_full<R: Read>(input: &mut R, buffer: &mut [u8]) -> usize
+    ensures { IsPrefixLen result buffer.new }
 {
-    io::write_all(libc::STDOUT_FILENO, text);
+    let mut done: usize = 0;
+    while done < buffer.len() {
+        let Ok(n) = input.read(&mut buffer[done..]) else {
+            return done;
+        };
+        if n == 0 {
+            return done;
+        }
+        done += n;
+    }
+    done
 }
 
-fn main() {
+// Writes the text that is to be printed of the job: what is handed over here is what the listing prints.
+fn print(rt: &impl Print, job: &[u8], text: &[u8])
+    requires { Prints job.now (replicate 65536 0) text.now }
+{
+    let _ = rt.write_all(text);
+}
+
+fn main(rt: HostRuntime) {
     let mut job = [0u8; 49152];
-    let n = io::read_full(libc::STDIN_FILENO, &mut job);
+    let n = read_full(&mut rt.stdin(), &mut job);
     let mut plan = [0u8; 65536];
     let mut out = [0u8; ROOM];
     let k = list_whole(&mut out, &job[..n], &mut plan);
-    print(&job[..n], &out[..k]);
+    print(&rt, &job[..n], &out[..k]);
 }

@@ -1,4 +1,6 @@
 // Salvaging for people: a job on standard input, the salvaged one on standard output, and on standard error what was removed.
+#![tactic(auto)]
+
 ghost use Rattle.std.specs.Prelude.{true, ◌≡◌, ◌+◌, ◌*◌, ◌-◌, ◌≤◌, ◌<◌, length, take};
 ghost use Rattle.io.specs.Counts.{IsPrefixLen};
 ghost use Rattle.game.specs.Below.{upto, each};
@@ -10,6 +12,7 @@ ghost use Rattle.mend.specs.Mends.{pair_line, listed_line, mended_text, Mends, M
 
 use job::layout::Reading;
 use salvage::tool::Salvaged;
+use std::io::Read;
 
 // How much of a job is taken in: more than the longest one, so that a longer one is refused.
 const JOB_ROOM: usize = 49152;
@@ -81,7 +84,7 @@ fn count_gone(job: &[u8], left: usize) -> u32
 }
 
 // How many bytes of the buffers are the salvaged job and what is said.
-#[derive(Drop)]
+#[derive(Clone, Copy)]
 struct Said {
     job: usize,
     text: usize,
@@ -123,20 +126,43 @@ fn mend_whole(
     mend(text, new, pairs, job)
 }
 
-// Writes the salvaged job, and says what was removed: what is handed over here is what the program prints.
-fn print(job: &[u8], new: &[u8], text: &[u8])
-    requires { Mends job.now new.now text.now }
+// Reads until the buffer is full, the input ends or a read fails, and answers how many bytes stand at its beginning.
+fn read_full<R: Read>(input: &mut R, buffer: &mut [u8]) -> usize
+    ensures { IsPrefixLen result buffer.new }
 {
-    io::write_all(libc::STDOUT_FILENO, new);
-    io::write_all(libc::STDERR_FILENO, text);
+    let mut done: usize = 0;
+    while done < buffer.len() {
+        let Ok(n) = input.read(&mut buffer[done..]) else {
+            return done;
+        };
+        if n == 0 {
+            return done;
+        }
+        done += n;
+    }
+    done
 }
 
-fn main() {
+// Writes the salvaged job, and says what was removed: what is handed over here is what the program prints.
+fn print(out: &impl Print, error: &impl Print, job: &[u8], new: &[u8], text: &[u8])
+    requires { Mends job.now new.now text.now }
+{
+    let _ = out.write_all(new);
+    let _ = error.write_all(text);
+}
+
+fn main(rt: HostRuntime) {
     let mut job = [0u8; JOB_ROOM];
-    let n = io::read_full(libc::STDIN_FILENO, &mut job);
+    let n = read_full(&mut rt.stdin(), &mut job);
     let mut new = [0u8; NEW_ROOM];
     let mut pairs = [0u8; PAIRS_ROOM];
     let mut text = [0u8; ROOM];
     let said = mend_whole(&mut text, &mut new, &mut pairs, &job[..n]);
-    print(&job[..n], &new[..said.job], &text[..said.text]);
+    print(
+        &rt.stdout(),
+        &rt.stderr(),
+        &job[..n],
+        &new[..said.job],
+        &text[..said.text],
+    );
 }

@@ -1,5 +1,7 @@
 // The reader of moves: it holds the lent job and a cursor, and hands out one move at a time. The work is done on the slice
-// and the number by functions that the borrow checker covers; those over the struct are thin, and proved by hand.
+// and the number; the functions over the struct are thin.
+#![tactic(auto)]
+
 ghost use Rattle.std.specs.Prelude.{◌≡◌};
 ghost use Rattle.rules.specs.Bytes.{fault};
 ghost use Rattle.reader.specs.Handed.{answered, handed, cursor, opened, hands, moved};
@@ -8,20 +10,20 @@ use job::layout::Reading;
 use rules::place::Move;
 
 // What asking for a move answers: the record, or that there are no more.
-#[derive(Drop)]
+#[derive(Clone, Copy)]
 pub enum Handed {
     Record(Move),
     NoMore,
 }
 
 // What opening answers: the number that refuses the job, or 0, and with 12 and 13 the bad record.
-#[derive(Drop)]
+#[derive(Clone, Copy)]
 pub struct Answer {
     pub refusal: u32,
     pub record: u32,
 }
 
-#[derive(Drop)]
+#[derive(Clone, Copy)]
 pub struct MoveReader<'a> {
     pub job: &'a [u8],
     pub answer: Answer,

@@ -1,4 +1,6 @@
 // The month in totals: a bundle of jobs on standard input, and 14 lines of figures on standard output, or "refused 23" alone.
+#![tactic(auto)]
+
 ghost use Rattle.std.specs.Prelude.{◌+◌, ◌≤◌, min, true, ◌≡◌, length, take};
 ghost use Rattle.io.specs.Counts.{IsPrefixLen};
 ghost use Rattle.text.specs.PutText.{PutText};
@@ -8,6 +10,7 @@ ghost use Rattle.totals.specs.Bundle.{entries, contents_fit};
 ghost use Rattle.report.specs.Report.{figure_line, count_lines, largest_line, report, refused};
 ghost use Rattle.report.specs.Read.{CameOf, MonthOf, told, Told};
 
+use std::io::Read;
 use totals::bundle::CONTENTS_ROOM;
 use totals::class::{Class, ENTRY_ROOM};
 use totals::tally::{Largest, Totals};
@@ -80,7 +83,7 @@ fn refusal_whole(out: &mut [u8; ROOM]) -> usize
 }
 
 // What came of a bundle: whether it is one, how many of its bytes came, and the totals of the entries that came whole.
-#[derive(Drop)]
+#[derive(Clone, Copy)]
 struct Month {
     whole: bool,
     came: u64,
@@ -100,10 +103,10 @@ fn tell(out: &mut [u8; ROOM], month: Month) -> usize
 }
 
 // Writes the text that is to be printed where these contents came, and so many bytes in all: what is handed over here is what the program prints.
-fn print(contents: &[u8], came: u64, text: &[u8])
+fn print(rt: &impl Print, contents: &[u8], came: u64, text: &[u8])
     requires { Told contents.now came text.now }
 {
-    io::write_all(libc::STDOUT_FILENO, text);
+    let _ = rt.write_all(text);
 }
 
 // How much of an entry of this size is read at once.
@@ -116,17 +119,34 @@ fn portion(size: u64) -> usize
     ENTRY_ROOM
 }
 
-// Reads bytes of standard input into a part of the buffer, and answers how many came.
-fn read_between(b: &mut [u8], from: usize, to: usize) -> usize
+// Reads until the buffer is full, the input ends or a read fails, and answers how many bytes stand at its beginning.
+fn read_full<R: Read>(input: &mut R, buffer: &mut [u8]) -> usize
+    ensures { IsPrefixLen result buffer.new }
+{
+    let mut done: usize = 0;
+    while done < buffer.len() {
+        let Ok(n) = input.read(&mut buffer[done..]) else {
+            return done;
+        };
+        if n == 0 {
+            return done;
+        }
+        done += n;
+    }
+    done
+}
+
+// Reads bytes of the input into a part of the buffer, and answers how many came.
+fn read_between<R: Read>(input: &mut R, b: &mut [u8], from: usize, to: usize) -> usize
     requires from_le_to { from ≤ to }
     requires to_in_bounds { to ≤ length b.old }
     ensures { from + result ≤ to }
 {
-    io::read_full(libc::STDIN_FILENO, &mut b[from..to])
+    read_full(input, &mut b[from..to])
 }
 
 // Reads past so many bytes, and answers how many came. Of none the buffer stays as it is.
-fn read_past(job: &mut [u8], size: u64) -> u64
+fn read_past<R: Read>(input: &mut R, job: &mut [u8], size: u64) -> u64
     requires { entry_room ≤ length job.old }
     ensures upper_bound { result ≤ size }
     ensures job_unchanged { size ≡ 0 → job.new ≡ job.old }
@@ -134,7 +154,7 @@ fn read_past(job: &mut [u8], size: u64) -> u64
     let mut past: u64 = 0;
     while past < size {
         let n = portion(size - past);
-        let came = read_between(job, 0, n);
+        let came = read_between(input, job, 0, n);
         past += came as u64;
         if came < n {
             return past;
@@ -144,7 +164,7 @@ fn read_past(job: &mut [u8], size: u64) -> u64
 }
 
 // What comes of an entry: its class, or how many of its bytes came before the input ended.
-#[derive(Drop)]
+#[derive(Clone, Copy)]
 enum Came {
     Whole(Class),
     Cut(u64),
@@ -152,17 +172,17 @@ enum Came {
 
 // Reads an entry of this size: its first bytes are kept, as many as there is room for. Of a longer one the others are read past, over these,
 // since its bytes do not count.
-fn take_entry(job: &mut [u8], size: u64) -> Came
+fn take_entry<R: Read>(input: &mut R, job: &mut [u8], size: u64) -> Came
     requires { entry_room ≤ length job.old }
     ensures { CameOf job.new size result }
 {
     let n = portion(size);
-    let first = read_between(job, 0, n);
+    let first = read_between(input, job, 0, n);
     if first < n {
         return Came::Cut(first as u64);
     }
     let more = size - n as u64;
-    let past = read_past(job, more);
+    let past = read_past(input, job, more);
     if past < more {
         return Came::Cut(n as u64 + past);
     }
@@ -170,15 +190,15 @@ fn take_entry(job: &mut [u8], size: u64) -> Came
 }
 
 // Asks for one byte after the last entry, and answers how many came.
-fn read_more() -> u64
+fn read_more<R: Read>(input: &mut R) -> u64
     ensures { result ≤ 1 }
 {
     let mut more = [0u8; 1];
-    read_between(&mut more, 0, 1) as u64
+    read_between(input, &mut more, 0, 1) as u64
 }
 
 // Reads the n entries that the contents tell of, one after another, and looks whether the input ends there.
-fn take_entries(job: &mut [u8], contents: &[u8], n: usize) -> Month
+fn take_entries<R: Read>(input: &mut R, job: &mut [u8], contents: &[u8], n: usize) -> Month
     requires entry_room_in_bounds { entry_room ≤ length job.old }
     requires contents_value { contents_fit contents.now ≡ true }
     requires n_value { n ≡ entries contents.now }
@@ -189,7 +209,7 @@ fn take_entries(job: &mut [u8], contents: &[u8], n: usize) -> Month
     let mut i: usize = 0;
     while i < n {
         let size = totals::bundle::size_of(contents, i);
-        match take_entry(job, size) {
+        match take_entry(input, job, size) {
             Came::Cut(k) => {
                 return Month {
                     whole: false,
@@ -204,7 +224,7 @@ fn take_entries(job: &mut [u8], contents: &[u8], n: usize) -> Month
             }
         }
     }
-    let more = read_more();
+    let more = read_more(input);
     Month {
         whole: more == 0,
         came: at + more,
@@ -213,12 +233,12 @@ fn take_entries(job: &mut [u8], contents: &[u8], n: usize) -> Month
 }
 
 // Of contents that do not fit no entry is read.
-fn take_month(job: &mut [u8], contents: &[u8]) -> Month
+fn take_month<R: Read>(input: &mut R, job: &mut [u8], contents: &[u8]) -> Month
     requires { entry_room ≤ length job.old }
     ensures { MonthOf contents.now result }
 {
     if totals::bundle::contents_fit(contents) {
-        return take_entries(job, contents, (contents.len() - 2) / 8);
+        return take_entries(input, job, contents, (contents.len() - 2) / 8);
     }
     Month {
         whole: false,
@@ -228,25 +248,26 @@ fn take_month(job: &mut [u8], contents: &[u8]) -> Month
 }
 
 // Reads the contents, two bytes and what they count, and answers how many bytes came.
-fn read_contents(contents: &mut [u8]) -> usize
+fn read_contents<R: Read>(input: &mut R, contents: &mut [u8]) -> usize
     requires { 514 ≤ length contents.old }
     ensures { result ≤ 514 }
 {
-    let first = read_between(contents, 0, 2);
+    let first = read_between(input, contents, 0, 2);
     if first < 2 {
         return first;
     }
     let n = totals::bundle::entries_counted(&contents[..first]);
-    2 + read_between(contents, 2, 2 + 8 * n)
+    2 + read_between(input, contents, 2, 2 + 8 * n)
 }
 
-fn main() {
+fn main(rt: HostRuntime) {
+    let mut input = rt.stdin();
     let mut contents = [0u8; CONTENTS_ROOM];
-    let k = read_contents(&mut contents);
+    let k = read_contents(&mut input, &mut contents);
     let mut job = [0u8; ENTRY_ROOM];
-    let month = take_month(&mut job, &contents[..k]);
+    let month = take_month(&mut input, &mut job, &contents[..k]);
     let came = month.came;
     let mut out = [0u8; ROOM];
     let n = tell(&mut out, month);
-    print(&contents[..k], came, &out[..n]);
+    print(&rt, &contents[..k], came, &out[..n]);
 }

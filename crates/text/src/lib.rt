@@ -1,5 +1,7 @@
 // Text put together in a buffer: bytes, words, numbers, and the lines that the programs print.
 // Each function puts its text in a line at a position and answers the position after it; what the line has no room for is left out.
+#![tactic(auto)]
+
 ghost use Rattle.std.specs.Prelude.{[], ◌∷◌, ◌++◌, map, ◌≡◌};
 ghost use Rattle.rules.specs.Answers.{value_number, refusal_fault};
 ghost use Rattle.text.specs.PutText.{PutText};

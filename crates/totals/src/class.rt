@@ -13,7 +13,7 @@ pub const ENTRY_ROOM: usize = 49152;
 // The longest plan.
 const PLAN_ROOM: usize = 4 * sets::places::ROOM;
 
-#[derive(Drop)]
+#[derive(Clone, Copy)]
 pub enum Class {
     Winning(u16),
     Pending(u16),

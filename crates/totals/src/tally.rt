@@ -6,14 +6,14 @@ ghost use Rattle.totals.specs.Reported.{Gathered};
 use crate::class::Class;
 
 // The largest winning starting number and the first job that has it, counted from 0 over all jobs; or that none wins.
-#[derive(Drop)]
+#[derive(Clone, Copy)]
 pub enum Largest {
     Nothing,
     Number { number: u16, job: u32 },
 }
 
 // How many jobs there are; how many in each class, in the order of the report's lines; the sums; the largest.
-#[derive(Drop)]
+#[derive(Clone, Copy)]
 pub struct Totals {
     pub jobs: u32,
     pub counts: [u32; 11],
