@@ -1,4 +1,6 @@
 // What the lines of a text say of the start, of the first goal state, and of the clauses of the goal.
+#![tactic(auto)]
+
 ghost use Rattle.std.specs.Prelude.{◌≡◌, ◌≤◌, length, drop};
 ghost use Rattle.text.specs.PutText.{PutText};
 ghost use Rattle.lines.specs.Words.{words, lines};

@@ -1,2 +1,4 @@
 // Each line of a text: its faults.
+#![tactic(auto)]
+
 pub mod line;

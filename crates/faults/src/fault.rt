@@ -2,7 +2,7 @@
 ghost use Rattle.lines.specs.Names.{Lie};
 
 // What was seen of a text so far: how far its faults are told and how many more there are, and what its goal is made of.
-#[derive(Drop)]
+#[derive(Clone, Copy)]
 pub struct Seen {
     pub at: usize,
     pub more: u32,

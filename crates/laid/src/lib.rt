@@ -1,3 +1,5 @@
 // What a text lacks as a whole, and a job laid out in bytes.
+#![tactic(auto)]
+
 pub mod lack;
 pub mod whole;

@@ -40,7 +40,7 @@ fn one_more(n: usize) -> usize {
 }
 
 // What a job is made of, in numbers.
-#[derive(Drop)]
+#[derive(Clone, Copy)]
 pub struct Sizes {
     pub tall: bool,
     pub states: usize,

@@ -1,17 +1,16 @@
 -- The laws of tables of names: the search for one, and one name more.
 use Prim.Native.Nat.{ℕ, zero, suc, ◌+◌, ◌-◌, ◌*◌, ◌/◌, ◌≤◌, ◌<◌}
-use mathlib.Core.Bool.{Bool, true, false, cond, ◌&&◌}
+use mathlib.Core.Bool.{true, false, cond, ◌&&◌}
 use mathlib.Core.List.{List, [], ◌∷◌, ◌++◌}
 use mathlib.Core.Logic.{⊎_elim}
 use mathlib.Core.Path.{◌≡◌, refl, sym, ap, ap₂, ◌∙◌}
 use native.Mathlib.Numerals.{add-one}
 use native.Mathlib.Omega.{arith}
 use borrow.Author.Tests.{lt-ltb, le-ltb}
-use lib.Dec.{ltb}
-use lib.ListN.{length, get_or, drop, set, length-set, length-append}
+use lib.ListN.{length, get_or, drop, set, length-set}
 use lib.Seq.{get_or-set_same, get_or-set_other}
 use Rattle.sets.proofs.Bits.{same_or}
-use Rattle.lines.specs.Words.{part, same_word, words, lines, lines_from, NextWord, NextLine}
+use Rattle.lines.specs.Words.{part, same_word, words, lines_from, NextWord, NextLine}
 use Rattle.lines.specs.Names.{colon, after_key, push, pushes, listed, names, name, table_from, table, Lie, index_of, Holds}
 use Rattle.lines.proofs.Wording.{after_none, after_some, words_past, no_lines_from, lines_first}
 

@@ -1,18 +1,16 @@
 -- The laws of what lines say: sets that gain what words and lines say, one after the other.
-use Prim.Native.Nat.{ℕ, zero, suc, ◌+◌, ◌*◌, ◌≤◌, ◌<◌}
-use mathlib.Core.Bool.{Bool, true, false, cond, ◌&&◌, ◌||◌}
-use mathlib.Core.List.{List, [], ◌∷◌}
-use mathlib.Core.Path.{◌≡◌, refl, sym, ap, ap₂, ◌∙◌}
-use native.Mathlib.Omega.{arith}
+use Prim.Native.Nat.{ℕ, ◌+◌, ◌*◌, ◌≤◌, ◌<◌}
+use mathlib.Core.Bool.{Bool, true, false, ◌||◌}
+use mathlib.Core.List.{List}
+use mathlib.Core.Path.{◌≡◌, refl, sym, ap, ◌∙◌}
 use borrow.Author.Tests.{lt-ltb, le-ltb}
-use lib.Dec.{ltb, eqb}
+use lib.Dec.{eqb}
 use lib.ListN.{length, drop}
 use Rattle.lines.specs.Words.{part, same_word, words, lines, lines_from, NextWord, NextLine}
-use Rattle.lines.specs.Names.{table, index_of}
+use Rattle.lines.specs.Names.{index_of}
 use Rattle.lines.specs.Numbers.{has, Gains}
 use Rattle.lines.specs.Says.{some_of, adds, names_some, says_after, says_action, says_move, says_fact, arrow, is, row}
 use Rattle.lines.proofs.Wording.{after_none, after_some, words_past, no_lines_from, lines_first}
-use Rattle.lines.proofs.Naming.{table_length}
 
 -- ---- a set on the way
 

@@ -1,6 +1,6 @@
 -- The laws of words and lines: how a text's words and lines go on from a position, by the byte that stands there.
-use Prim.Native.Nat.{ℕ, zero, suc, ◌+◌, ◌-◌, ◌≤◌, ◌<◌}
-use mathlib.Core.Bool.{Bool, true, false, cond, ◌&&◌, false≢true, true≢false}
+use Prim.Native.Nat.{ℕ, suc, ◌+◌, ◌-◌, ◌≤◌, ◌<◌}
+use mathlib.Core.Bool.{Bool, true, false, false≢true}
 use mathlib.Core.List.{List, [], ◌∷◌}
 use mathlib.Core.Logic.{inl, inr, ⊎_elim}
 use types.Run.{OneOf}
@@ -8,10 +8,10 @@ use mathlib.Core.Path.{◌≡◌, refl, sym, ap, ap₂, ◌∙◌}
 use native.Mathlib.Numerals.{add-one}
 use native.Mathlib.Omega.{arith}
 use borrow.Author.Tests.{eq-eqb, ne_eqb, eqb-true, eqb-false, le-leb, lt-leb}
-use lib.Dec.{eqb, leb}
-use lib.ListN.{length, take, drop, get_or, length-drop, drop_of_length-le}
-use lib.Seq.{drop-cons, drop-drop, drop-length}
-use Rattle.lines.specs.Words.{class, is_letter, in_word, glue, words, lines_after, lines, lines_from, letters, blanks, part, NextWord, NextLine, same_word}
+use lib.Dec.{eqb}
+use lib.ListN.{length, take, drop, get_or, drop_of_length-le}
+use lib.Seq.{drop-cons, drop-drop}
+use Rattle.lines.specs.Words.{class, in_word, glue, words, lines_after, lines, lines_from, letters, blanks, part, NextWord, NextLine, same_word}
 
 -- ---- by the first byte
 

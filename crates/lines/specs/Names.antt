@@ -1,5 +1,5 @@
 -- Names: those that a text lists after a key, a table of where they stand, and the first that is spelt like a word.
-use Rattle.std.specs.Prelude.{ℕ, zero, suc, ◌+◌, ◌*◌, ◌≤◌, ◌<◌, Bool, cond, ◌&&◌, List, [], ◌∷◌, ◌++◌, ◌≡◌, eqb, ltb, length, get_or}
+use Rattle.std.specs.Prelude.{ℕ, zero, suc, ◌+◌, ◌*◌, ◌≤◌, ◌<◌, cond, ◌&&◌, List, [], ◌∷◌, ◌++◌, ◌≡◌, ltb, length, get_or}
 use Rattle.lines.specs.Words.{part, same_word, lines}
 
 -- the mark after a key, and the words that a line lists after a key and this mark

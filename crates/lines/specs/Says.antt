@@ -1,6 +1,6 @@
 -- What a line says: the moves of a state and an action, and the facts of a state. States and actions go by their names.
 use Rattle.std.specs.Prelude.{ℕ, ◌+◌, ◌*◌, Bool, false, cond, ◌&&◌, ◌||◌, List, [], ◌∷◌, eqb, ltb, length}
-use Rattle.lines.specs.Words.{same_word, lines}
+use Rattle.lines.specs.Words.{same_word}
 use Rattle.lines.specs.Names.{index_of}
 
 -- some of the list passes

@@ -1,5 +1,5 @@
 -- The words of a line, and the lines of a text.
-use Rattle.std.specs.Prelude.{ℕ, zero, suc, ◌+◌, ◌-◌, ◌≤◌, ◌<◌, Bool, true, false, cond, ◌&&◌, ◌||◌, List, [], ◌∷◌, ◌≡◌, eqb, leb, length, take, drop}
+use Rattle.std.specs.Prelude.{ℕ, suc, ◌+◌, ◌-◌, ◌≤◌, ◌<◌, Bool, true, false, cond, ◌&&◌, ◌||◌, List, [], ◌∷◌, ◌≡◌, eqb, leb, length, take, drop}
 
 -- A byte's class. 0, a blank: a space, a tab or a carriage return. 1, where a line's words end: a line feed, or the # of a remark.
 -- 2, a mark, a word by itself: a colon, a bar or a comma. 3, a letter: every other byte.

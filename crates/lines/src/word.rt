@@ -3,7 +3,7 @@ ghost use Rattle.std.specs.Prelude.{◌≡◌, ◌+◌, ◌≤◌, length, drop}
 ghost use Rattle.lines.specs.Words.{class, letters, blanks, NextWord, NextLine, same_word};
 
 // A word of a text, from its first byte to where it ends; where these are the same there is none.
-#[derive(Drop)]
+#[derive(Clone, Copy)]
 pub struct Word {
     pub start: usize,
     pub end: usize,

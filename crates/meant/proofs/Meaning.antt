@@ -1,12 +1,11 @@
 -- The laws of a job that was meant: its records are the numbers of a set, seen from both sides.
 use Prim.Native.Nat.{ℕ, ◌+◌, ◌*◌, ◌/◌, ◌%◌, ◌≤◌, ◌<◌}
-use mathlib.Core.Bool.{Bool, true, false}
+use mathlib.Core.Bool.{true, false}
 use mathlib.Core.List.{List}
-use mathlib.Core.Path.{◌≡◌, refl, sym, ap, ◌∙◌}
+use mathlib.Core.Path.{◌≡◌, sym, ap}
 use mathlib.Core.Logic.{⊎_elim}
 use native.Mathlib.Omega.{arith}
-use lib.Dec.{eqb}
-use lib.ListN.{length, get_or}
+use lib.ListN.{get_or}
 use Rattle.sets.proofs.Bits.{bit_none, below_or}
 use Rattle.game.proofs.Tests.{same_test, some_met, and_iff, eqb_iff}
 use Rattle.rules.specs.Job.{Job, is_record, recorded}

@@ -1,4 +1,6 @@
 // The job that was written, read again: whether its records are the moves that were said, and its labels those that were made.
+#![tactic(auto)]
+
 pub mod goal;
 
 ghost use Rattle.std.specs.Prelude.{◌≡◌, true, ℕ, ◌+◌, ◌*◌, ◌/◌, ◌%◌, ◌<◌, ◌≤◌, length, get_or};

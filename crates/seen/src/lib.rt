@@ -1,11 +1,13 @@
 // The goal states of a goal in clauses, told in words: what each clause has seen so far.
+#![tactic(auto)]
+
 ghost use Rattle.std.specs.Prelude.{◌≤◌, length};
 ghost use Rattle.seen.specs.Kept.{Inside};
 
 use lines::word::{is_same, next_line, next_word};
 
 // A clause of a text: its kind, 4 where a line has none, and where its two facts stand.
-#[derive(Drop)]
+#[derive(Clone, Copy)]
 struct Clause {
     kind: u8,
     start: usize,

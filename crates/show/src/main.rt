@@ -1,11 +1,18 @@
 // A plan shown: a job in words by the name of its file, and on standard output its plan with names, or as a graph for Graphviz.
+#![tactic(auto)]
+
 ghost use Rattle.std.specs.Prelude.{◌*◌, ◌≤◌, ◌<◌, length};
 ghost use Rattle.rules.specs.Bytes.{said};
 ghost use Rattle.rules.specs.Job.{places};
+ghost use Rattle.io.specs.Counts.{IsPrefixLen};
 ghost use Rattle.job.specs.Layout.{Fit};
 
 use job::layout::{Layout, Reading};
 use rules::answer::Planned;
+use std::env::{Env, FillError};
+use std::io::Read;
+use std::rt::Files;
+use std::{fs, str};
 use words::turn::Turned;
 
 // The longest text, the longest job that is written, the longest plan, and more than is told of a place.
@@ -20,44 +27,65 @@ const OUT_ROOM: usize = 16384;
 // As much as cabinet-words tells of faults.
 const TOLD_ROOM: usize = 65536;
 
+// The longest name of a file that the system takes.
+const PATH_ROOM: usize = 4096;
+
 // The graph's edge from place i by record k, if it is a move from there.
-fn draw_move(text: &[u8], actions: &[usize], job: &[u8], l: Layout, plan: &[u8], i: usize, k: usize)
+fn draw_move(
+    rt: &impl Print,
+    text: &[u8],
+    actions: &[usize],
+    job: &[u8],
+    l: Layout,
+    plan: &[u8],
+    i: usize,
+    k: usize,
+)
     requires fit { Fit job.now l }
     requires k_lt_records { k < l.records }
 {
     let mut out = [0u8; 512];
     let n = drawing::graph::put_move(&mut out, text, actions, job, l, plan, i, k);
     if 0 < n {
-        write_front(&out, n);
+        write_front(rt, &out, n);
     }
 }
 
 // The graph's edges from place i.
-fn draw_moves(text: &[u8], actions: &[usize], job: &[u8], l: Layout, plan: &[u8], i: usize)
+fn draw_moves(
+    rt: &impl Print,
+    text: &[u8],
+    actions: &[usize],
+    job: &[u8],
+    l: Layout,
+    plan: &[u8],
+    i: usize,
+)
     requires { Fit job.now l }
 {
     let r = telling::range::of_state(job, l, i / l.goals);
     let to = r.to;
     let mut k = r.from;
     while k < to {
-        draw_move(text, actions, job, l, plan, i, k);
+        draw_move(rt, text, actions, job, l, plan, i, k);
         k += 1;
     }
 }
 
 // Writes the first n bytes to standard output, or to standard error.
-fn write_to(file: i32, out: &[u8], n: usize) {
+fn write_to(file: &impl Print, out: &[u8], n: usize) {
     if n <= out.len() {
-        io::write_all(file, &out[..n]);
+        let _ = file.write_all(&out[..n]);
     }
 }
 
-fn write_front(out: &[u8], n: usize) {
-    write_to(libc::STDOUT_FILENO, out, n);
+fn write_front(rt: &impl Print, out: &[u8], n: usize) {
+    write_to(rt, out, n);
 }
 
 // Place i as a node of the graph, with the edges from it.
 fn draw_place(
+    rt: &impl Print,
     text: &[u8],
     states: &[usize],
     actions: &[usize],
@@ -73,12 +101,13 @@ fn draw_place(
 {
     let mut out = [0u8; 1024];
     let n = drawing::graph::put_node(&mut out, text, states, phrases, goals, l, plan, i);
-    write_front(&out, n);
-    draw_moves(text, actions, job, l, plan, i);
+    write_front(rt, &out, n);
+    draw_moves(rt, text, actions, job, l, plan, i);
 }
 
 // Place i in words.
 fn tell_place(
+    rt: &impl Print,
     text: &[u8],
     states: &[usize],
     actions: &[usize],
@@ -99,10 +128,11 @@ fn tell_place(
     let n = telling::told::tell_place(
         &mut out, text, states, actions, phrases, goals, job, l, plan, i,
     );
-    write_front(&out, n);
+    write_front(rt, &out, n);
 }
 
 fn show_place(
+    rt: &impl Print,
     text: &[u8],
     states: &[usize],
     actions: &[usize],
@@ -118,9 +148,9 @@ fn show_place(
     requires job_in_bounds { 4 * places (said job.now) ≤ length plan.now }
 {
     if dot {
-        draw_place(text, states, actions, phrases, goals, job, l, plan, i);
+        draw_place(rt, text, states, actions, phrases, goals, job, l, plan, i);
     } else {
-        tell_place(text, states, actions, phrases, goals, job, l, plan, i);
+        tell_place(rt, text, states, actions, phrases, goals, job, l, plan, i);
     }
 }
 
@@ -134,6 +164,7 @@ fn nth(queue: &[u16], k: usize) -> usize {
 
 // Each place of a queue's first n.
 fn show_places(
+    rt: &impl Print,
     text: &[u8],
     states: &[usize],
     actions: &[usize],
@@ -152,6 +183,7 @@ fn show_places(
     let mut k: usize = 0;
     while k < n {
         show_place(
+            rt,
             text,
             states,
             actions,
@@ -168,28 +200,29 @@ fn show_places(
 }
 
 // What comes before the places: what can be said of the whole, or the beginning of the graph.
-fn begin(plan: &[u8], start: usize, dot: bool) {
+fn begin(rt: &impl Print, plan: &[u8], start: usize, dot: bool) {
     let mut out = [0u8; 512];
     if dot {
         let n = drawing::graph::put_begin(&mut out, start);
-        write_front(&out, n);
+        write_front(rt, &out, n);
         return;
     }
     if start < plan.len() / 4 {
         let n = telling::told::put_outlook(&mut out, plan[4 * start]);
-        write_front(&out, n);
+        write_front(rt, &out, n);
     }
 }
 
 // What comes after the places.
-fn end(dot: bool) {
+fn end(rt: &impl Print, dot: bool) {
     if dot {
-        io::write_all(libc::STDOUT_FILENO, b"}\n");
+        let _ = rt.write_all(b"}\n");
     }
 }
 
 // The plan of a job, with the names of its goal states.
 fn show_plan(
+    rt: &impl Print,
     text: &[u8],
     states: &[usize],
     actions: &[usize],
@@ -206,15 +239,15 @@ fn show_plan(
     let mut queue = [0u16; drawing::reach::ROOM];
     let mut marks = [0u8; drawing::reach::ROOM];
     let n = drawing::reach::reach(&mut queue, &mut marks, job, l, plan, dot);
-    begin(plan, nth(&queue, 0), dot);
+    begin(rt, plan, nth(&queue, 0), dot);
     show_places(
-        text, states, actions, phrases, goals, job, l, plan, &queue, n, dot,
+        rt, text, states, actions, phrases, goals, job, l, plan, &queue, n, dot,
     );
-    end(dot);
+    end(rt, dot);
 }
 
 // The same with the names that the text lists, or where its goal is made of clauses, with what these have seen.
-fn show_named(text: &[u8], job: &[u8], l: Layout, plan: &[u8], dot: bool)
+fn show_named(rt: &impl Print, text: &[u8], job: &[u8], l: Layout, plan: &[u8], dot: bool)
     requires fit { Fit job.now l }
     requires job_in_bounds { 4 * places (said job.now) ≤ length plan.now }
 {
@@ -224,120 +257,167 @@ fn show_named(text: &[u8], job: &[u8], l: Layout, plan: &[u8], dot: bool)
     lines::names::list(&mut actions, text, b"actions");
     let mut goals = [0usize; 64];
     if 0 < lines::names::list(&mut goals, text, b"goal-states") {
-        show_plan(text, &states, &actions, text, &goals, job, l, plan, dot);
+        show_plan(rt, text, &states, &actions, text, &goals, job, l, plan, dot);
         return;
     }
     let mut phrases = [0u8; 8192];
     seen::list(&mut phrases, &mut goals, text);
-    show_plan(text, &states, &actions, &phrases, &goals, job, l, plan, dot);
+    show_plan(
+        rt, text, &states, &actions, &phrases, &goals, job, l, plan, dot,
+    );
 }
 
 // Plans a job, and shows its plan.
-fn show(text: &[u8], job: &[u8], dot: bool) {
+fn show(rt: &impl Print, err: &impl Print, text: &[u8], job: &[u8], dot: bool) {
     let mut plan = [0u8; PLAN_ROOM];
     match labelling::plan::plan(job, &mut plan) {
         Planned::Refused(_) => {
-            io::write_all(libc::STDERR_FILENO, b"cabinet-show: the job is refused\n");
+            let _ = err.write_all(b"cabinet-show: the job is refused\n");
         }
         Planned::Done => match job::accept::read(job) {
             Reading::Refused(_) => {
-                io::write_all(libc::STDERR_FILENO, b"cabinet-show: the job is refused\n");
+                let _ = err.write_all(b"cabinet-show: the job is refused\n");
             }
             Reading::Job(l) => {
-                show_named(text, job, l, &plan, dot);
+                show_named(rt, text, job, l, &plan, dot);
             }
         },
     }
 }
 
 // The same of the job in the first n bytes.
-fn show_front(text: &[u8], job: &[u8], n: usize, dot: bool) {
+fn show_front(rt: &impl Print, err: &impl Print, text: &[u8], job: &[u8], n: usize, dot: bool) {
     if n <= job.len() {
-        show(text, &job[..n], dot);
+        show(rt, err, text, &job[..n], dot);
     }
 }
 
 // Turns a text into a job and shows its plan, or tells the text's faults on standard error.
-fn show_text(text: &[u8], dot: bool) {
+fn show_text(rt: &impl Print, err: &impl Print, text: &[u8], dot: bool) {
     let mut job = [0u8; JOB_ROOM];
     let mut told = [0u8; TOLD_ROOM];
     match words::turn::turn(&mut job, &mut told, text) {
         Turned::Faults(n) => {
-            write_to(libc::STDERR_FILENO, &told, n);
+            write_to(err, &told, n);
         }
         Turned::Job(n) => {
-            show_front(text, &job, n, dot);
+            show_front(rt, err, text, &job, n, dot);
         }
     }
+}
+
+// Reads until the buffer is full, the input ends or a read fails, and answers how many bytes stand at its beginning.
+fn read_full<R: Read>(input: &mut R, buffer: &mut [u8]) -> usize
+    ensures { IsPrefixLen result buffer.new }
+{
+    let mut done: usize = 0;
+    while done < buffer.len() {
+        let Ok(n) = input.read(&mut buffer[done..]) else {
+            return done;
+        };
+        if n == 0 {
+            return done;
+        }
+        done += n;
+    }
+    done
+}
+
+// Whether there is an argument i, of whatever length.
+fn has_arg(rt: &impl Env, i: usize) -> bool {
+    let mut first = [0u8; 1];
+    match rt.arg(i, &mut first) {
+        Ok(_) => true,
+        Err(FillError::TooLong) => true,
+        Err(FillError::NotPresent) => false,
+    }
+}
+
+// Puts argument i at the beginning of the buffer, and answers how long it is: 0 where the buffer has no room for it.
+fn put_arg(rt: &impl Env, i: usize, path: &mut [u8]) -> usize
+    ensures { IsPrefixLen result path.new }
+{
+    let Ok(k) = rt.arg(i, path) else {
+        return 0;
+    };
+    k
 }
 
 // Says on standard error what has gone wrong with the file that argument i names.
-fn say_why(i: usize, error: &[u8]) {
-    let mut path = io::buffer();
-    let k = os::arg(i, &mut path);
-    io::write_all(libc::STDERR_FILENO, b"cabinet-show: ");
-    io::write_all(libc::STDERR_FILENO, &path[..k]);
-    io::write_all(libc::STDERR_FILENO, error);
+fn say_why(rt: &impl Env, err: &impl Print, i: usize, error: &[u8]) {
+    let mut path = [0u8; PATH_ROOM];
+    let k = put_arg(rt, i, &mut path);
+    let _ = err.write_all(b"cabinet-show: ");
+    let _ = err.write_all(&path[..k]);
+    let _ = err.write_all(error);
 }
 
-// Opens the file that argument i names, or says that it can not be, and answers a number below 0.
-fn open_named(i: usize) -> i32 {
-    let mut path = io::buffer();
-    let k = os::arg(i, &mut path);
-    let file = os::open_read(&path[..k]);
-    if file < 0 {
-        say_why(i, b": cannot be opened\n");
-    }
-    file
+// Opens the file of this name, which std takes as UTF-8.
+fn open<R: Files>(rt: &R, path: &[u8]) -> Option<R::File> {
+    let Ok(name) = str::from_utf8(path) else {
+        return None;
+    };
+    let Ok(file) = fs::open(rt, name) else {
+        return None;
+    };
+    Some(file)
+}
+
+// Opens the file that argument i names, or says that it can not be.
+fn open_named<R: Files + Env>(rt: &R, err: &impl Print, i: usize) -> Option<R::File> {
+    let mut path = [0u8; PATH_ROOM];
+    let k = put_arg(rt, i, &mut path);
+    let Some(file) = open(rt, &path[..k]) else {
+        say_why(rt, err, i, b": cannot be opened\n");
+        return None;
+    };
+    Some(file)
 }
 
 // Whether the file was read to its end without a fault; it is closed.
-fn was_read(file: i32, i: usize) -> bool {
+fn was_read<F: Read + Drop>(rt: &impl Env, err: &impl Print, mut file: F, i: usize) -> bool {
     let mut more = [0u8; 1];
-    let got = libc::read(file, &mut more);
-    libc::close(file);
-    if got < 0 {
-        say_why(i, b": cannot be read\n");
+    let Ok(got) = file.read(&mut more) else {
+        say_why(rt, err, i, b": cannot be read\n");
         return false;
-    }
+    };
     if 0 < got {
-        say_why(i, b": a text has at most 262144 bytes\n");
+        say_why(rt, err, i, b": a text has at most 262144 bytes\n");
         return false;
     }
     true
 }
 
 // Shows the job in the file that argument i names.
-fn show_file(i: usize, dot: bool) {
-    let file = open_named(i);
-    if file < 0 {
+fn show_file<R: Files + Env + Print>(rt: &R, err: &impl Print, i: usize, dot: bool) {
+    let Some(mut file) = open_named(rt, err, i) else {
         return;
-    }
+    };
     let mut text = [0u8; TEXT_ROOM];
-    let n = io::read_full(file, &mut text);
-    if was_read(file, i) {
-        show_text(&text[..n], dot);
+    let n = read_full(&mut file, &mut text);
+    if was_read(rt, err, file, i) {
+        show_text(rt, err, &text[..n], dot);
     }
 }
 
 // Whether argument 1 asks for a graph.
-fn asks_dot() -> bool {
-    let mut word = io::buffer();
-    let k = os::arg(1, &mut word);
+fn asks_dot(rt: &impl Env) -> bool {
+    let mut word = [0u8; PATH_ROOM];
+    let k = put_arg(rt, 1, &mut word);
     lines::word::is_same(&word[..k], b"--dot")
 }
 
-fn main() {
-    let n = os::arg_count();
-    if n == 2 {
-        show_file(1, false);
+fn main(rt: HostRuntime) {
+    let err = rt.stderr();
+    if has_arg(&rt, 1) && !has_arg(&rt, 2) {
+        show_file(&rt, &err, 1, false);
         return;
     }
-    if n == 3 {
-        if asks_dot() {
-            show_file(2, true);
+    if has_arg(&rt, 2) && !has_arg(&rt, 3) {
+        if asks_dot(&rt) {
+            show_file(&rt, &err, 2, true);
             return;
         }
     }
-    io::write_all(libc::STDERR_FILENO, b"usage: cabinet-show [--dot] FILE\n");
+    let _ = err.write_all(b"usage: cabinet-show [--dot] FILE\n");
 }

@@ -1,4 +1,6 @@
 // Whether no word of a text's moves, facts and clauses is skipped.
+#![tactic(auto)]
+
 ghost use Rattle.std.specs.Prelude.{◌≡◌, true, ◌&&◌, ◌≤◌, length, drop};
 ghost use Rattle.lines.specs.Words.{words, lines};
 ghost use Rattle.lines.specs.Names.{Lie, table};

@@ -1,5 +1,5 @@
 -- The laws of a text's goal: its clauses as slips, or its table, and the job whose Goal body is the one that is written from either.
-use Prim.Native.Nat.{ℕ, ◌≤◌, ◌<◌}
+use Prim.Native.Nat.{ℕ, ◌<◌}
 use mathlib.Core.List.{List, []}
 use mathlib.Core.Path.{◌≡◌, refl, sym, ap, subst, ◌∙◌}
 use native.Mathlib.Omega.{arith}
@@ -7,7 +7,7 @@ use lib.ListN.{length, take}
 use Rattle.rules.specs.Bytes.{said}
 use Rattle.slips.specs.Writing.{clauses, slips_refusal, Body, Writing, refused, written, written_refusal, written_length}
 use Rattle.slips.specs.declared.goal.Written.{Written}
-use Rattle.slips.specs.Playing.{goal_body, GoalFrom}
+use Rattle.slips.specs.Playing.{goal_body}
 use Rattle.slips.proofs.Written.{written_body}
 use Rattle.text.specs.Lines.{bytes}
 use Rattle.text.specs.PutText.{PutText}
@@ -26,7 +26,7 @@ use Rattle.words.specs.declared.goal.Aim.{Aim}
 -- ---- slips
 
 -- slips that are written are those that no number refuses
-taken : {s before after : List ℕ} {p r n : ℕ} → Writing s p before r n after → r ≡ 0 → slips_refusal s p (length before) ≡ 0
+taken : {s before : List ℕ} {p : ℕ} {after : List ℕ} {r n : ℕ} → Writing s p before r n after → r ≡ 0 → slips_refusal s p (length before) ≡ 0
 taken (refused h) z = absurd (h z)
 taken (written e x) z = e
 

@@ -8,7 +8,7 @@ use lib.Dec.{ltb}
 use lib.ListN.{length, get_or, replicate, length-replicate}
 use Rattle.sets.specs.Sets.{bit}
 use Rattle.sets.proofs.Bits.{bit_none}
-use Rattle.rules.specs.Bytes.{byte, said}
+use Rattle.rules.specs.Bytes.{said}
 use Rattle.job.specs.Layout.{Fit}
 use Rattle.job.specs.declared.layout.Layout.{Layout}
 use Rattle.job.proofs.Asking.{states_said, actions_said, propositions_said, goals_said, records_said, tall_said}

@@ -1,6 +1,6 @@
 -- What a job that was written from a text promises: it keeps the rules, and its states, actions, facts, records, labels, start and goal are those
 -- that the text's lines say.
-use Rattle.std.specs.Prelude.{ℕ, ◌+◌, ◌*◌, ◌≤◌, ◌<◌, Bool, true, ◌||◌, List, [], ◌∷◌, ◌≡◌, ltb, length, take}
+use Rattle.std.specs.Prelude.{ℕ, ◌+◌, ◌*◌, ◌≤◌, ◌<◌, true, ◌||◌, List, [], ◌∷◌, ◌≡◌, ltb, length, take}
 use Rattle.sets.specs.Sets.{bit}
 use Rattle.rules.specs.Job.{recorded}
 use Rattle.rules.specs.Bytes.{is_tall, byte, said}

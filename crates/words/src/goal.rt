@@ -7,7 +7,7 @@ ghost use Rattle.words.specs.Within.{Slipped, Aims};
 use slips::goal::Written;
 
 // What is written of a goal: how many bytes its body has, how many goal states, and which is the first; or nothing, where clauses are no slips.
-#[derive(Drop)]
+#[derive(Clone, Copy)]
 pub enum Aim {
     Body {
         size: usize,

@@ -1,3 +1,5 @@
 // A job in words turned into bytes, or its faults told.
+#![tactic(auto)]
+
 mod goal;
 pub mod turn;

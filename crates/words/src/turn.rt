@@ -16,7 +16,7 @@ use job::layout::{Layout, Reading};
 use laid::whole::Sizes;
 
 // What turning answers: how many bytes the job has, or the lines that tell the faults.
-#[derive(Drop)]
+#[derive(Clone, Copy)]
 pub enum Turned {
     Job(usize),
     Faults(usize),

@@ -1,0 +1,43 @@
+-- `mark::names_goal` meets its contract: no word passed names the goal state.
+use mathlib.Core.Path.{sym, ◌∙◌}
+use native.Mathlib.Omega.{arith}
+use Rattle.lines.proofs.Naming.{table_length}
+use Rattle.lines.proofs.Saying.{none_named, named_past}
+use Rattle.rows.proofs.Marking.{named_here, named_later}
+use borrow.Author.Rules.{rules}
+use Rattle.rows.proofs.mark.names_goal.Goals as goal
+
+pub returns-then-start-end : goal.returns-then-start-end
+returns-then-start-end c =
+    sym (c.loop-i.invariant.1 ∙ none_named _ _ c.next_word-w.ensures c.if-start-end.true _)
+
+pub slice_bounds-find-count : goal.slice_bounds-find-count
+slice_bounds-find-count c = let n = c.next_word-w.ensures in search rules
+
+pub slice_bounds-find-start : goal.slice_bounds-find-start
+slice_bounds-find-start c = let n = c.next_word-w.ensures in search rules
+
+pub slice_bounds-find-end : goal.slice_bounds-find-end
+slice_bounds-find-end c = let n = c.next_word-w.ensures in search rules
+
+pub find-requires : goal.find-requires
+find-requires c = c.requires.1
+
+pub returns-then-find-q : goal.returns-then-find-q
+returns-then-find-q c =
+    let n = c.next_word-w.ensures in
+    sym (c.loop-i.invariant.1 ∙ named_here _ n c.if-start-end.false _ c.find.ensures _ (rw table_length c.requires.2) c.if-find-q.true)
+
+pub loop-i-smaller : goal.loop-i-smaller
+loop-i-smaller c =
+    let n = c.next_word-w.ensures in
+    omega (arith, n.forward, n.order, n.inside, c.if-start-end.false, c.loop-i-test.true)
+
+pub loop-i-preserved : goal.loop-i-preserved
+loop-i-preserved c =
+    let n = c.next_word-w.ensures in
+    (n.inside, c.loop-i.invariant.1 ∙ named_later _ n c.if-start-end.false _ c.find.ensures _ c.if-find-q.false)
+
+pub returns : goal.returns
+returns c =
+    sym (c.loop-i.invariant.1 ∙ named_past _ _ c.args.text.now _ c.loop-i-test.false _)

@@ -1,0 +1,16 @@
+-- `turn::is_job` meets its contract.
+use mathlib.Core.Bool.{false≢true}
+use mathlib.Core.Path.{sym, ap, ◌∙◌}
+use Rattle.job.specs.Reading.{reading_figures}
+use Rattle.job.proofs.Readings.{read_fit}
+use Rattle.words.proofs.turn.is_job.Goals as goal
+
+pub is_meant-requires : goal.is_meant-requires
+is_meant-requires c =
+    record {
+      fit = read_fit _ _ (ap reading_figures (sym c.in-Job.is) ∙ c.read.ensures);
+      labels_len = c.requires;
+    }
+
+pub returns-in-Refused : goal.returns-in-Refused
+returns-in-Refused c = λ e. absurd (false≢true e)
