@@ -32,7 +32,7 @@
    0 wants a pointer that is not null all the same; the buffers of a call do not overlap; and nothing else writes to them during a call.
    Calls on different buffers may run at the same time.
 
-   Link with -lcabinet (x86-64, GNU/Linux). */
+   Link with -lcabinet (GNU/Linux on x86-64-v2). */
 
 #ifndef CABINET_H
 #define CABINET_H

@@ -4,17 +4,19 @@ use mathlib.Core.Bool.{Bool, true, false, cond}
 use mathlib.Core.List.{List, [], ◌∷◌, ◌++◌, map, map-append, append_assoc}
 use mathlib.Core.Path.{◌≡◌, refl, sym, ap, ap₂, ◌∙◌, subst}
 use mathlib.Core.Logic.Iff
+use native.Mathlib.Nat.{zero-add}
 use native.Mathlib.Numerals.{add-one}
 use native.Mathlib.Omega.{arith}
 use borrow.Author.Tests.{leb-true}
 use lib.Dec.{leb}
 use lib.ListN.{length, get_or, take, drop, length-take, length-drop, drop_of_length-le}
 use lib.Seq.{take_all, drop-cons, length-take-le, take-append_seam}
+use Rattle.std.specs.List.{slice_range}
 use Rattle.io.specs.Counts.{IsPrefixLen}
 use Rattle.game.proofs.Tests.{and_iff}
 use Rattle.text.specs.PutText.{PutText}
 use Rattle.text.proofs.Putting.{put_none, put_then, put_length}
-use Rattle.judge.specs.Lines.{digit, held, ended, grown, numbers_from, numbers, capped}
+use Rattle.judge.specs.Lines.{digit, held, ended, grown, numbers_from, numbers, index_of, capped}
 
 pub record Scanned (line before : List ℕ) (i : ℕ) (out : List ℕ) (next : ℕ) (inside : Bool) (value : ℕ) : Type 0 where
   pub word : List ℕ
@@ -107,3 +109,7 @@ drop_past b e h = let l : length b ≤ suc e = omega arith in drop_of_length-le 
 -- what is lent from a byte on
 pub part_rest : (b : List ℕ) (a : ℕ) → take (length b - a) (drop a b) ≡ drop a b
 part_rest b a = take_all (length b - a) (drop a b) (omega (arith, length-drop a b))
+
+-- the first line of a text ends where that of its whole range does
+pub index_whole : (b : List ℕ) → 0 + index_of 10 (slice_range b 0 (length b)) ≡ index_of 10 b
+index_whole b = zero-add _ ∙ ap (index_of 10) (part_rest b 0)

@@ -27,7 +27,7 @@ const OUT_ROOM: usize = 16384;
 // As much as cabinet-words tells of faults.
 const TOLD_ROOM: usize = 65536;
 
-// The longest name of a file that the system takes.
+// Room for the longest name of a file, 4,095 bytes, and one byte more.
 const PATH_ROOM: usize = 4096;
 
 // The graph's edge from place i by record k, if it is a move from there.
@@ -324,7 +324,7 @@ fn read_full<R: Read>(input: &mut R, buffer: &mut [u8]) -> usize
 }
 
 // Whether there is an argument i, of whatever length.
-fn has_arg(rt: &impl Env, i: usize) -> bool {
+fn has_arg(rt: &HostRuntime, i: usize) -> bool {
     let mut first = [0u8; 1];
     match rt.arg(i, &mut first) {
         Ok(_) => true,
@@ -334,7 +334,7 @@ fn has_arg(rt: &impl Env, i: usize) -> bool {
 }
 
 // Puts argument i at the beginning of the buffer, and answers how long it is: 0 where the buffer has no room for it.
-fn put_arg(rt: &impl Env, i: usize, path: &mut [u8]) -> usize
+fn put_arg(rt: &HostRuntime, i: usize, path: &mut [u8]) -> usize
     ensures { IsPrefixLen result path.new }
 {
     let Ok(k) = rt.arg(i, path) else {
@@ -344,7 +344,7 @@ fn put_arg(rt: &impl Env, i: usize, path: &mut [u8]) -> usize
 }
 
 // Says on standard error what has gone wrong with the file that argument i names.
-fn say_why(rt: &impl Env, err: &impl Print, i: usize, error: &[u8]) {
+fn say_why(rt: &HostRuntime, err: &impl Print, i: usize, error: &[u8]) {
     let mut path = [0u8; PATH_ROOM];
     let k = put_arg(rt, i, &mut path);
     let _ = err.write_all(b"cabinet-show: ");
@@ -353,18 +353,20 @@ fn say_why(rt: &impl Env, err: &impl Print, i: usize, error: &[u8]) {
 }
 
 // Opens the file of this name, which std takes as UTF-8.
-fn open<R: Files>(rt: &R, path: &[u8]) -> Option<R::File> {
+fn open(rt: &HostRuntime, path: &[u8]) -> Option<fs::File> {
     let Ok(name) = str::from_utf8(path) else {
         return None;
     };
-    let Ok(file) = fs::open(rt, name) else {
+    let mut how = fs::OpenOptions::new();
+    how.read(true);
+    let Ok(file) = rt.open_file(&how, name) else {
         return None;
     };
     Some(file)
 }
 
 // Opens the file that argument i names, or says that it can not be.
-fn open_named<R: Files + Env>(rt: &R, err: &impl Print, i: usize) -> Option<R::File> {
+fn open_named(rt: &HostRuntime, err: &impl Print, i: usize) -> Option<fs::File> {
     let mut path = [0u8; PATH_ROOM];
     let k = put_arg(rt, i, &mut path);
     let Some(file) = open(rt, &path[..k]) else {
@@ -375,7 +377,7 @@ fn open_named<R: Files + Env>(rt: &R, err: &impl Print, i: usize) -> Option<R::F
 }
 
 // Whether the file was read to its end without a fault; it is closed.
-fn was_read<F: Read + Drop>(rt: &impl Env, err: &impl Print, mut file: F, i: usize) -> bool {
+fn was_read<F: Read + Drop>(rt: &HostRuntime, err: &impl Print, mut file: F, i: usize) -> bool {
     let mut more = [0u8; 1];
     let Ok(got) = file.read(&mut more) else {
         say_why(rt, err, i, b": cannot be read\n");
@@ -389,7 +391,7 @@ fn was_read<F: Read + Drop>(rt: &impl Env, err: &impl Print, mut file: F, i: usi
 }
 
 // Shows the job in the file that argument i names.
-fn show_file<R: Files + Env + Print>(rt: &R, err: &impl Print, i: usize, dot: bool) {
+fn show_file(rt: &HostRuntime, err: &impl Print, i: usize, dot: bool) {
     let Some(mut file) = open_named(rt, err, i) else {
         return;
     };
@@ -401,7 +403,7 @@ fn show_file<R: Files + Env + Print>(rt: &R, err: &impl Print, i: usize, dot: bo
 }
 
 // Whether argument 1 asks for a graph.
-fn asks_dot(rt: &impl Env) -> bool {
+fn asks_dot(rt: &HostRuntime) -> bool {
     let mut word = [0u8; PATH_ROOM];
     let k = put_arg(rt, 1, &mut word);
     lines::word::is_same(&word[..k], b"--dot")
