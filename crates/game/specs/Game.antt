@@ -1,6 +1,6 @@
 -- Choosing against outcomes, on any kind of place: plays, ways of choosing, values, numbers, and what a plan says of a place.
 -- Document 01, "Places, plays and values". Nothing here speaks of rounds or of a planner. A job's places are one such arena (Job.antt of `rules`).
-use Rattle.std.specs.Prelude.{ℕ, zero, suc, ◌≤◌, ◌<◌, Bool, true, false, cond, ◌⊎◌, ◌≡◌, eqb}
+use Rattle.std.specs.Prelude.{ℕ, zero, suc, ◌≤◌, ◌<◌, Bool, true, false, cond, ◌⊎◌, ◌≡◌, eqb, Option, Some, None}
 use mathlib.Core.List.{List, Memᴰ}
 use Rattle.game.specs.declared.entry.Entry.{Entry}
 
@@ -37,6 +37,10 @@ Least Q n = Q n × ((m : ℕ) → Q m → n ≤ m)
 -- what a plan says of a place: a value, an action and a number
 abbrev pub says : ℕ → ℕ → ℕ → Entry
 says v a n = record { value = v; action = a; number = n }
+
+-- the action that an entry names, and none at 255
+abbrev pub named : Entry → Option ℕ
+named e = cond (eqb e.action 255) None (Some e.action)
 
 module _ (G : Arena) where
   abbrev pub Inside : G.Place → Type 0
