@@ -3,14 +3,13 @@ use Prim.Native.Nat.{ℕ, zero, suc}
 use mathlib.Core.Bool.{true≢false}
 use mathlib.Core.Logic.{◌≢◌}
 use mathlib.Core.Path.{◌≡◌, refl, sym, ap, ◌∙◌}
+use Rattle.std.specs.Prelude.{Option, Some, None, Result, Ok, Err}
 use Rattle.rules.specs.Fault.{Fault}
 use Rattle.rules.specs.Answers.{refusal_fault, value_number, AdvisedFigures, planned_fault, advised_figures, ShapeOf}
 use Rattle.game.specs.declared.entry.Entry.{Entry}
-use Rattle.rules.specs.declared.entry.Shape.{Shape}
 use Rattle.rules.specs.declared.answer.Refusal.{Refusal}
 use Rattle.rules.specs.declared.answer.Value.{Value}
-use Rattle.rules.specs.declared.answer.Planned.{Planned}
-use Rattle.rules.specs.declared.answer.Advised.{Advised}
+use Rattle.rules.specs.declared.answer.Advice.{Advice}
 
 -- what can be read back from an image is known by it
 pub known_by : {A B : Type 0} (f : A → B) (g : B → A) → ((x : A) → g (f x) ≡ x) → (x y : A) → f x ≡ f y → x ≡ y
@@ -99,20 +98,20 @@ by_refusal_back r done refused =
     let n = refusal_some r in
     rw n.1 (ap refused (ap (λ (m : ℕ). refusal_of m (refusal_fault r).«record») (sym n.1) ∙ refusal_back r))
 
-abbrev planned_of : Fault → Planned
-planned_of f = by_refusal f.number f.«record» Planned.Done Planned.Refused
+abbrev planned_of : Fault → Result (Unit {0}) Refusal
+planned_of f = by_refusal f.number f.«record» (Ok tt) Err
 
-planned_back : (r : Planned) → planned_of (planned_fault r) ≡ r
-planned_back Planned.Done = refl
-planned_back (Planned.Refused r) = by_refusal_back r Planned.Done Planned.Refused
+planned_back : (r : Result (Unit {0}) Refusal) → planned_of (planned_fault r) ≡ r
+planned_back (Ok x) = refl
+planned_back (Err r) = by_refusal_back r (Ok tt) Err
 
-abbrev advised_of : AdvisedFigures → Advised
+abbrev advised_of : AdvisedFigures → Result Advice Refusal
 advised_of f =
-    by_refusal f.refusal f.«record» (Advised.Says (value_of f.value) f.action f.number) Advised.Refused
+    by_refusal f.refusal f.«record» (Ok (record { value = value_of f.value; action = f.action; number = f.number })) Err
 
-advised_back : (r : Advised) → advised_of (advised_figures r) ≡ r
-advised_back (Advised.Says v a n) = ap (λ (w : Value). Advised.Says w a n) (value_back v)
-advised_back (Advised.Refused r) = by_refusal_back r _ Advised.Refused
+advised_back : (r : Result Advice Refusal) → advised_of (advised_figures r) ≡ r
+advised_back (Ok x) = ap (λ (w : Value). Ok (record x { value = w })) (value_back x.value)
+advised_back (Err r) = by_refusal_back r _ Err
 
 -- a refusal by another number than 12 and 13 names no record
 pub record_none : (r : Refusal) → (refusal_fault r).number ≢ 12 → (refusal_fault r).number ≢ 13 → (refusal_fault r).«record» ≡ 0
@@ -133,15 +132,15 @@ record_none Refusal.Clause f o = refl
 record_none Refusal.Memory f o = refl
 record_none Refusal.Slips f o = refl
 
-pub planned_known : (r s : Planned) → planned_fault r ≡ planned_fault s → r ≡ s
+pub planned_known : (r s : Result (Unit {0}) Refusal) → planned_fault r ≡ planned_fault s → r ≡ s
 planned_known = known_by planned_fault planned_of planned_back
 
-pub advised_known : (r s : Advised) → advised_figures r ≡ advised_figures s → r ≡ s
+pub advised_known : (r s : Result Advice Refusal) → advised_figures r ≡ advised_figures s → r ≡ s
 advised_known = known_by advised_figures advised_of advised_back
 
 -- of an entry's shape one thing only can be said
-pub shape_unique : (actions n : ℕ) (e : Entry) (x y : Shape) → ShapeOf actions n e x → ShapeOf actions n e y → x ≡ y
-shape_unique actions n e (Shape.Of v) (Shape.Of w) (s, p) (t, q) = ap Shape.Of (value_known v w (sym p ∙ q))
-shape_unique actions n e (Shape.Of v) Shape.Nothing (s, p) t = absurd (true≢false (sym s ∙ t))
-shape_unique actions n e Shape.Nothing (Shape.Of w) s (t, q) = absurd (true≢false (sym t ∙ s))
-shape_unique actions n e Shape.Nothing Shape.Nothing s t = refl
+pub shape_unique : (actions n : ℕ) (e : Entry) (x y : Option Value) → ShapeOf actions n e x → ShapeOf actions n e y → x ≡ y
+shape_unique actions n e (Some v) (Some w) (s, p) (t, q) = ap Some (value_known v w (sym p ∙ q))
+shape_unique actions n e (Some v) None (s, p) t = absurd (true≢false (sym s ∙ t))
+shape_unique actions n e None (Some w) s (t, q) = absurd (true≢false (sym t ∙ s))
+shape_unique actions n e None None s t = refl

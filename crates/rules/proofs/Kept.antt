@@ -2,7 +2,7 @@
 use Prim.Native.Nat.{ℕ, ◌+◌, ◌*◌, ◌≤◌, ◌<◌}
 use mathlib.Core.Bool.{Bool, false}
 use mathlib.Core.List.{List}
-use mathlib.Core.Logic.{◌⊎◌, ⊎_elim, ◌↔◌}
+use mathlib.Core.Logic.{⊎_elim, ◌↔◌}
 use mathlib.Core.Path.{◌≡◌, sym}
 use native.Mathlib.Nat.{le_refl, le_trans, mul-le-mul, eq-or-lt_of_le}
 use native.Mathlib.Omega.{arith}

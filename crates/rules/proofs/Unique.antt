@@ -13,8 +13,9 @@ use Rattle.rules.specs.Plan.{room}
 use Rattle.rules.specs.Calls.{Planning, refused, no_room, planned, started, followed, advised}
 use Rattle.rules.specs.Answers.{MovedFigures, planned_fault, advised_figures}
 use Rattle.rules.specs.declared.place.Place.{Place}
-use Rattle.rules.specs.declared.answer.Planned.{Planned}
-use Rattle.rules.specs.declared.answer.Advised.{Advised}
+use Rattle.std.specs.Prelude.{Result}
+use Rattle.rules.specs.declared.answer.Refusal.{Refusal}
+use Rattle.rules.specs.declared.answer.Advice.{Advice}
 use Rattle.game.proofs.Bounds.{wins_below, hopes_below}
 use Rattle.rules.proofs.Kept.{kept}
 use Rattle.rules.proofs.Arenas.{size_of, arena_lawful}
@@ -42,7 +43,7 @@ planning_unique (planned e l p) (no_room e' l') = absurd (omega arith)
 planning_unique {b} {before} (planned e l p) (planned e' l' p') =
     (refl, ap (λ (x : List ℕ). x ++ drop (room (said b)) before) (plan_unique (said b) (arena_lawful b ((kept b).0 e)) p p'))
 
-pub planned_unique : {b before after after' : List ℕ} (r r' : Planned) → Planning b before (planned_fault r) after
+pub planned_unique : {b before after after' : List ℕ} (r r' : Result (Unit {0}) Refusal) → Planning b before (planned_fault r) after
     → Planning b before (planned_fault r') after' → (r ≡ r') × (after ≡ after')
 planned_unique r r' p p' = let u = planning_unique p p' in (planned_known r r' u.0, u.1)
 
@@ -53,6 +54,6 @@ started_unique b f f' e e' = e ∙ sym e'
 pub followed_unique : (b : List ℕ) (s q a t : ℕ) (f f' : MovedFigures) → f ≡ followed b s q a t → f' ≡ followed b s q a t → f ≡ f'
 followed_unique b s q a t f f' e e' = e ∙ sym e'
 
-pub advised_unique : (b p : List ℕ) (s q : ℕ) (r r' : Advised) → advised_figures r ≡ advised b p s q → advised_figures r' ≡ advised b p s q
+pub advised_unique : (b p : List ℕ) (s q : ℕ) (r r' : Result Advice Refusal) → advised_figures r ≡ advised b p s q → advised_figures r' ≡ advised b p s q
     → r ≡ r'
 advised_unique b p s q r r' e e' = advised_known r r' (e ∙ sym e')

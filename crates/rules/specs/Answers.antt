@@ -1,13 +1,12 @@
 -- The numbers and values of documents 01 and 02 for each case of an answer.
-use Rattle.std.specs.Prelude.{ℕ, true, false, ◌≡◌}
+use Rattle.std.specs.Prelude.{ℕ, ◌<◌, true, false, ◌≡◌, Option, Some, None, Result, Ok, Err}
 use Rattle.rules.specs.Fault.{Fault, only, with_record}
 use Rattle.rules.specs.Plan.{shaped}
 use Rattle.game.specs.declared.entry.Entry.{Entry}
-use Rattle.rules.specs.declared.entry.Shape.{Shape}
 use Rattle.rules.specs.declared.answer.Refusal.{Refusal}
 use Rattle.rules.specs.declared.answer.Value.{Value}
-use Rattle.rules.specs.declared.answer.Planned.{Planned}
-use Rattle.rules.specs.declared.answer.Advised.{Advised}
+use Rattle.rules.specs.declared.answer.NoValue.{NoValue}
+use Rattle.rules.specs.declared.answer.Advice.{Advice}
 
 -- the number of a refusal, and its record
 abbrev pub refusal_fault : Refusal → Fault
@@ -33,6 +32,16 @@ value_number Value.Losing = 0
 value_number Value.Pending = 1
 value_number Value.Winning = 2
 
+-- the value that has a number, or the number where none has it
+abbrev pub ValueOf : ℕ → Result Value NoValue → Type 0
+ValueOf n (Ok v) = n ≡ value_number v
+ValueOf n (Err e) = (e.0 ≡ n) × (2 < n)
+
+-- the number and the record of an answer: 0 where it is no refusal
+abbrev pub fault_of : {A : Type 0} → Result A Refusal → Fault
+fault_of (Ok x) = only 0
+fault_of (Err why) = refusal_fault why
+
 -- The figures that a call returns. Success is 0; a refusal returns its number and its record, and every other figure is 0. On success the
 -- record of a move is the one that was followed.
 pub record MovedFigures : Type 0 where
@@ -55,16 +64,16 @@ moved_fault f = with_record f.refusal f.«record»
 abbrev pub advised_fault : AdvisedFigures → Fault
 advised_fault f = with_record f.refusal f.«record»
 
-abbrev pub planned_fault : Planned → Fault
-planned_fault Planned.Done = only 0
-planned_fault (Planned.Refused r) = refusal_fault r
+-- of what planning answers
+abbrev pub planned_fault : Result (Unit {0}) Refusal → Fault
+planned_fault r = fault_of r
 
-abbrev pub advised_figures : Advised → AdvisedFigures
-advised_figures (Advised.Says v a n) = record { refusal = 0; value = value_number v; action = a; number = n; «record» = 0 }
-advised_figures (Advised.Refused r) =
-    record { refusal = (refusal_fault r).number; value = 0; action = 0; number = 0; «record» = (refusal_fault r).«record» }
+abbrev pub advised_figures : Result Advice Refusal → AdvisedFigures
+advised_figures (Ok x) = record { refusal = 0; value = value_number x.value; action = x.action; number = x.number; «record» = 0 }
+advised_figures (Err why) =
+    record { refusal = (refusal_fault why).number; value = 0; action = 0; number = 0; «record» = (refusal_fault why).«record» }
 
 -- an answer names the value of an entry that has one of the four shapes, or says that it has none of them
-abbrev pub ShapeOf : ℕ → ℕ → Entry → Shape → Type 0
-ShapeOf actions n e (Shape.Of v) = (shaped actions n e ≡ true) × (e.value ≡ value_number v)
-ShapeOf actions n e Shape.Nothing = shaped actions n e ≡ false
+abbrev pub ShapeOf : ℕ → ℕ → Entry → Option Value → Type 0
+ShapeOf actions n e (Some v) = (shaped actions n e ≡ true) × (e.value ≡ value_number v)
+ShapeOf actions n e None = shaped actions n e ≡ false

@@ -9,6 +9,10 @@ use Rattle.rules.specs.declared.place.Move.{Move}
 abbrev pub two : ℕ → List ℕ → List ℕ
 two n bs = n % 256 ∷ n / 256 ∷ bs
 
+-- the bytes d, with ys in place of as many of them from `at` on
+abbrev pub patched : List ℕ → ℕ → List ℕ → List ℕ
+patched d at ys = take at d ++ ys ++ drop (at + length ys) d
+
 -- four bodies one after the other, and the contents before them
 abbrev pub job_of : (counts labels moves goal : List ℕ) → List ℕ
 job_of c l m g =

@@ -1,9 +1,9 @@
 // The answers of the calls, and the numbers that stand for them.
 ghost use Rattle.std.specs.Prelude.{◌≡◌};
-ghost use Rattle.rules.specs.Answers.{refusal_fault, value_number};
+ghost use Rattle.rules.specs.Answers.{refusal_fault, value_number, ValueOf};
 
 // Why a call says no: the names of the table of numbers that say no, in its order. A field or an order has the bad record's number.
-#[derive(Clone, Copy)]
+#[derive(Clone, Copy, Debug, PartialEq, Eq)]
 pub enum Refusal {
     Short,
     Contents,
@@ -23,29 +23,24 @@ pub enum Refusal {
     Slips,
 }
 
-#[derive(Clone, Copy)]
+// What a place is worth, in the order of the numbers that say so.
+#[derive(Clone, Copy, Debug, PartialEq, Eq, PartialOrd, Ord)]
 pub enum Value {
     Losing,
     Pending,
     Winning,
 }
 
-// What planning answers.
-#[derive(Clone, Copy)]
-pub enum Planned {
-    Done,
-    Refused(Refusal),
-}
+// A number that no value has.
+#[derive(Clone, Copy, Debug, PartialEq, Eq)]
+pub struct NoValue(pub u8);
 
-// What advice answers.
-#[derive(Clone, Copy)]
-pub enum Advised {
-    Says {
-        value: Value,
-        action: u8,
-        number: u16,
-    },
-    Refused(Refusal),
+// What advice says of a place.
+#[derive(Clone, Copy, Debug, PartialEq, Eq)]
+pub struct Advice {
+    pub value: Value,
+    pub action: u8,
+    pub number: u16,
 }
 
 impl Refusal {
@@ -105,6 +100,29 @@ impl Value {
             Value::Losing => 0,
             Value::Pending => 1,
             Value::Winning => 2,
+        }
+    }
+}
+
+impl From<Value> for u8 {
+    ghost from_gives = { λ v n. n ≡ value_number v };
+
+    fn from(value: Value) -> u8 {
+        value.number()
+    }
+}
+
+impl TryFrom<u8> for Value {
+    type Error = NoValue;
+
+    ghost try_from_gives = { ValueOf };
+
+    fn try_from(number: u8) -> Result<Value, NoValue> {
+        match number {
+            0 => Ok(Value::Losing),
+            1 => Ok(Value::Pending),
+            2 => Ok(Value::Winning),
+            _ => Err(NoValue(number)),
         }
     }
 }

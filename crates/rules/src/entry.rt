@@ -4,14 +4,8 @@ ghost use Rattle.rules.specs.Plan.{entry, blank, due, Wrote};
 ghost use Rattle.rules.specs.Answers.{ShapeOf};
 
 use crate::answer::Value;
+use crate::bytes::{put_word_at, word_at};
 use game::entry::Entry;
-
-// The value that an entry of one of the four shapes has.
-#[derive(Clone, Copy)]
-pub enum Shape {
-    Of(Value),
-    Nothing,
-}
 
 // Writes the entry i.
 pub fn write_entry(plan: &mut [u8], i: usize, e: Entry)
@@ -21,8 +15,7 @@ pub fn write_entry(plan: &mut [u8], i: usize, e: Entry)
     let at = 4 * i;
     plan[at] = e.value;
     plan[at + 1] = e.action;
-    plan[at + 2] = (e.number % 256) as u8;
-    plan[at + 3] = (e.number / 256) as u8;
+    put_word_at(plan, at + 2, e.number);
 }
 
 // Reads the entry i.
@@ -34,7 +27,7 @@ pub fn read_entry(plan: &[u8], i: usize) -> Entry
     Entry {
         value: plan[at],
         action: plan[at + 1],
-        number: (plan[at + 2] as u16) + 256 * (plan[at + 3] as u16),
+        number: word_at(plan, at + 2),
     }
 }
 
@@ -52,31 +45,15 @@ fn is_due(e: Entry, actions: u8, places: usize) -> bool
     e.action < actions && 1 <= e.number && (e.number as usize) < places
 }
 
-// Which of the four shapes an entry has.
-pub fn shape_of(e: Entry, actions: u8, places: usize) -> Shape
+// The value of an entry that has one of the four shapes.
+pub fn shape_of(e: Entry, actions: u8, places: usize) -> Option<Value>
     ensures { ShapeOf actions places e result }
 {
-    let value = e.value;
-    if value == 0 {
-        if is_blank(e) {
-            return Shape::Of(Value::Losing);
-        }
-        return Shape::Nothing;
-    }
-    if value == 1 {
-        if is_due(e, actions, places) {
-            return Shape::Of(Value::Pending);
-        }
-        return Shape::Nothing;
-    }
-    if value == 2 {
-        if is_blank(e) {
-            return Shape::Of(Value::Winning);
-        }
-        if is_due(e, actions, places) {
-            return Shape::Of(Value::Winning);
-        }
-        return Shape::Nothing;
-    }
-    Shape::Nothing
+    let value = Value::try_from(e.value).ok()?;
+    let shaped = match value {
+        Value::Losing => is_blank(e),
+        Value::Pending => is_due(e, actions, places),
+        Value::Winning => is_blank(e) || is_due(e, actions, places),
+    };
+    if shaped { Some(value) } else { None }
 }

@@ -2,5 +2,6 @@
 #![tactic(auto)]
 
 pub mod answer;
+pub mod bytes;
 pub mod entry;
 pub mod place;
