@@ -1,5 +1,4 @@
-// Text put together in a buffer: bytes, words, numbers, and the lines that the programs print.
-// Each function puts its text in a line at a position and answers the position after it; what the line has no room for is left out.
+// Text put together in a lent buffer: bytes, words, numbers, and the lines that the programs print.
 #![tactic(auto)]
 
 ghost use Rattle.std.specs.Prelude.{[], ◌∷◌, ◌++◌, map, ◌≡◌};
@@ -10,127 +9,123 @@ ghost use Rattle.text.specs.Lines.{names_record, record_named, refusal_line};
 
 use rules::answer::{Refusal, Value};
 
-pub fn put(line: &mut [u8], at: usize, byte: u8) -> usize
-    ensures { PutText line.old at (byte ∷ []) line.new result }
-{
-    if at < line.len() {
-        line[at] = byte;
-        return at + 1;
+/// Text in a lent buffer: the next byte goes to the position `at`. What there is no room for is left out.
+#[derive(Drop)]
+pub struct Line<'a> {
+    pub bytes: &'a mut [u8],
+    pub at: usize,
+}
+
+impl Line<'_> {
+    pub fn put(&mut self, byte: u8)
+        ensures { PutText self.old.bytes.now self.old.at (byte ∷ []) self.new.bytes.now self.new.at }
+    {
+        if self.at < self.bytes.len() {
+            self.bytes[self.at] = byte;
+            self.at += 1;
+        }
     }
-    at
-}
 
-pub fn put_word(line: &mut [u8], at: usize, word: &[u8]) -> usize
-    ensures { PutText line.old at word.now line.new result }
-{
-    let mut next = at;
-    let mut i: usize = 0;
-    while i < word.len() {
-        next = put(line, next, word[i]);
-        i += 1;
+    pub fn put_word(&mut self, word: &[u8])
+        ensures { PutText self.old.bytes.now self.old.at word.now self.new.bytes.now self.new.at }
+    {
+        for &byte in word {
+            self.put(byte);
+        }
     }
-    next
-}
 
-pub fn put_number(line: &mut [u8], at: usize, n: u32) -> usize
-    ensures { PutText line.old at (decimal n) line.new result }
-{
-    let mut digits = [0u8; 20];
-    let k = io::decimal(n as u64, &mut digits);
-    put_word(line, at, &digits[..k])
-}
-
-pub fn put_value(line: &mut [u8], at: usize, value: Value) -> usize
-    ensures { PutText line.old at (value_word (value_number value)) line.new result }
-{
-    match value {
-        Value::Losing => put_word(line, at, b"losing"),
-        Value::Pending => put_word(line, at, b"pending"),
-        Value::Winning => put_word(line, at, b"winning"),
+    pub fn put_number(&mut self, n: u32)
+        ensures { PutText self.old.bytes.now self.old.at (decimal n) self.new.bytes.now self.new.at }
+    {
+        let mut digits = [0u8; 20];
+        let k = io::decimal(u64::from(n), &mut digits);
+        self.put_word(&digits[..k]);
     }
-}
 
-// The action, or "-" where none is named.
-pub fn put_action(line: &mut [u8], at: usize, action: u8) -> usize
-    ensures { PutText line.old at (action_word action) line.new result }
-{
-    if action == 255 {
-        return put(line, at, b'-');
+    pub fn put_value(&mut self, value: Value)
+        ensures { PutText self.old.bytes.now self.old.at (value_word (value_number value)) self.new.bytes.now self.new.at }
+    {
+        match value {
+            Value::Losing => self.put_word(b"losing"),
+            Value::Pending => self.put_word(b"pending"),
+            Value::Winning => self.put_word(b"winning"),
+        }
     }
-    put_number(line, at, action as u32)
-}
 
-// A state and a goal state, a space between them.
-fn put_state_and_goal(line: &mut [u8], at: usize, state: u32, goal: u32) -> usize
-    ensures { PutText line.old at (decimal state ++ (32 ∷ decimal goal)) line.new result }
-{
-    let at = put_number(line, at, state);
-    let at = put(line, at, b' ');
-    put_number(line, at, goal)
-}
+    /// The action, or "-" where none is named.
+    pub fn put_action(&mut self, action: u8)
+        ensures { PutText self.old.bytes.now self.old.at (action_word action) self.new.bytes.now self.new.at }
+    {
+        if action == 255 {
+            self.put(b'-');
+        } else {
+            self.put_number(u32::from(action));
+        }
+    }
 
-// The line of a place.
-pub fn put_entry(
-    line: &mut [u8],
-    at: usize,
-    state: u32,
-    goal: u32,
-    value: Value,
-    action: u8,
-    number: u16,
-) -> usize
-    ensures { PutText line.old at (entry_line state goal (value_number value) action number) line.new result }
-{
-    let at = put_state_and_goal(line, at, state, goal);
-    let at = put(line, at, b' ');
-    let at = put_value(line, at, value);
-    let at = put(line, at, b' ');
-    let at = put_action(line, at, action);
-    let at = put(line, at, b' ');
-    let at = put_number(line, at, number as u32);
-    put(line, at, b'\n')
-}
+    // A state and a goal state, a space between them.
+    fn put_state_and_goal(&mut self, state: u32, goal: u32)
+        ensures { PutText self.old.bytes.now self.old.at (decimal state ++ (32 ∷ decimal goal)) self.new.bytes.now self.new.at }
+    {
+        self.put_number(state);
+        self.put(b' ');
+        self.put_number(goal);
+    }
 
-// The first line of a listing.
-pub fn put_start(line: &mut [u8], at: usize, state: u32, goal: u32, value: Value) -> usize
-    ensures { PutText line.old at (start_line state goal (value_number value)) line.new result }
-{
-    let at = put_word(line, at, b"start ");
-    let at = put_state_and_goal(line, at, state, goal);
-    let at = put(line, at, b' ');
-    let at = put_value(line, at, value);
-    put(line, at, b'\n')
+    /// The line of a place.
+    pub fn put_entry(&mut self, state: u32, goal: u32, value: Value, action: u8, number: u16)
+        ensures { PutText self.old.bytes.now self.old.at
+            (entry_line state goal (value_number value) action number)
+            self.new.bytes.now self.new.at }
+    {
+        self.put_state_and_goal(state, goal);
+        self.put(b' ');
+        self.put_value(value);
+        self.put(b' ');
+        self.put_action(action);
+        self.put(b' ');
+        self.put_number(u32::from(number));
+        self.put(b'\n');
+    }
+
+    /// The first line of a listing.
+    pub fn put_start(&mut self, state: u32, goal: u32, value: Value)
+        ensures { PutText self.old.bytes.now self.old.at
+            (start_line state goal (value_number value))
+            self.new.bytes.now self.new.at }
+    {
+        self.put_word(b"start ");
+        self.put_state_and_goal(state, goal);
+        self.put(b' ');
+        self.put_value(value);
+        self.put(b'\n');
+    }
+
+    // The rest of a refusal's line: the record that is named, if one is.
+    fn put_record(&mut self, why: Refusal)
+        ensures { PutText self.old.bytes.now self.old.at
+            (rest_of_line (map decimal (record_named (refusal_fault why))))
+            self.new.bytes.now self.new.at }
+    {
+        if names_record(why) {
+            self.put(b' ');
+            self.put_number(why.record());
+        }
+        self.put(b'\n');
+    }
+
+    /// The line of a refusal.
+    pub fn put_refusal(&mut self, why: Refusal)
+        ensures { PutText self.old.bytes.now self.old.at (refusal_line (refusal_fault why)) self.new.bytes.now self.new.at }
+    {
+        self.put_word(b"refused ");
+        self.put_number(why.number());
+        self.put_record(why);
+    }
 }
 
 fn names_record(why: Refusal) -> bool
     ensures { result ≡ names_record (refusal_fault why) }
 {
-    let number = why.number();
-    if number == 12 {
-        return true;
-    }
-    number == 13
-}
-
-// The rest of a refusal's line: the record that is named, if one is.
-fn put_record(line: &mut [u8], at: usize, why: Refusal) -> usize
-    ensures { PutText line.old at
-        (rest_of_line (map decimal (record_named (refusal_fault why))))
-        line.new result }
-{
-    if names_record(why) {
-        let at = put(line, at, b' ');
-        let at = put_number(line, at, why.record());
-        return put(line, at, b'\n');
-    }
-    put(line, at, b'\n')
-}
-
-// The line of a refusal.
-pub fn put_refusal(line: &mut [u8], at: usize, why: Refusal) -> usize
-    ensures { PutText line.old at (refusal_line (refusal_fault why)) line.new result }
-{
-    let at = put_word(line, at, b"refused ");
-    let at = put_number(line, at, why.number());
-    put_record(line, at, why)
+    matches!(why, Refusal::Field(_) | Refusal::Order(_))
 }

@@ -1,8 +1,0 @@
--- `put_number` meets its contract: the digits that `io::decimal` writes are the decimal text.
-use Rattle.text.proofs.Digits.{decimal_digits}
-use Rattle.text.specs.PutText.{PutText}
-use Rattle.text.proofs.put_number.Goals as goal
-
-pub returns : goal.returns
-returns c =
-    rw (c.decimal-k.ensures.digits, decimal_digits _ _ c.decimal-k.ensures.len) at c.put_word.ensures

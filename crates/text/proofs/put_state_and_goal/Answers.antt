@@ -1,7 +1,0 @@
--- `put_state_and_goal` meets its contract: three texts, one after another.
-use Rattle.text.proofs.Putting.{put_then}
-use Rattle.text.proofs.put_state_and_goal.Goals as goal
-
-pub returns : goal.returns
-returns c =
-    put_then c.put_number-at.ensures (put_then c.put-at.ensures c.put_number.ensures)
