@@ -12,7 +12,7 @@ use lib.Dec.{eqb}
 use lib.ListN.{get_or, set, length, replicate, length-set, get_or-eq_default}
 use lib.Pow.{pow_pos}
 use lib.Seq.{get_or-set_same, get_or-set_other}
-use Rattle.sets.specs.Sets.{set_words, set_room, member, Put}
+use Rattle.sets.specs.Sets.{member, PutIn}
 use Rattle.sets.proofs.Bits.{same_or, bit-or, bit_pow, bit_none, one_shl}
 
 -- the words with the place i
@@ -54,17 +54,17 @@ member_zeros n i = rw (zeros n (i / 64)) (bit_none (i % 64))
 
 -- ---- what putting i into a set leaves: the machine's store where there is room, and the set itself where there is none
 
-pub put_more : (ws : List ℕ) (i : ℕ) → length ws ≡ set_words → i < set_room
-    → Put ws i (set ws (i / 64) (bit_or (1 * 2 ^ (i % 64) % 2 ^ 64) (get_or ws (i / 64) 0)))
-put_more ws i n h =
+pub put_more : (n : ℕ) (ws : List ℕ) (i : ℕ) → length ws ≡ n → i / 64 < n
+    → PutIn n ws i (set ws (i / 64) (bit_or (1 * 2 ^ (i % 64) % 2 ^ 64) (get_or ws (i / 64) 0)))
+put_more n ws i n_is h =
     record {
       as_long = length-set ws (i / 64) (bit_or (1 * 2 ^ (i % 64) % 2 ^ 64) (get_or ws (i / 64) 0));
       in_bits =
           λ small k. ⊎_elim
-          (λ (e : k ≡ i / 64). rw (e, get_or-set_same ws (i / 64) word 0 (omega arith)) (fits (small (i / 64))))
+          (λ (e : k ≡ i / 64). rw (e, get_or-set_same ws (i / 64) word 0 (omega (arith, n_is, h))) (fits (small (i / 64))))
           (λ (e : k ≡ i / 64 → ⊥). rw (get_or-set_other ws (i / 64) k word 0 e) (small k))
           (same_or k (i / 64));
-      members = λ j. rw (one_shl (i % 64) 64 (omega arith), lt-ltb i set_room h) (member_with ws i j (omega arith));
+      members = λ j. rw (one_shl (i % 64) 64 (omega arith), lt-ltb i (64 * n) (omega (arith, h))) (member_with ws i j (omega (arith, n_is, h)));
     }
   where
     word : ℕ
@@ -73,5 +73,6 @@ put_more ws i n h =
     fits : get_or ws (i / 64) 0 < 2 ^ 64 → word < 2 ^ 64
     fits = or_lt 64 (1 * 2 ^ (i % 64) % 2 ^ 64) (get_or ws (i / 64) 0) (mod-lt (1 * 2 ^ (i % 64)) (pow_pos 64))
 
-pub put_same : (ws : List ℕ) (i : ℕ) → set_room ≤ i → Put ws i ws
-put_same ws i h = record { as_long = refl; in_bits = λ small. small; members = λ j. rw (le-ltb i set_room h) }
+pub put_same : (n : ℕ) (ws : List ℕ) (i : ℕ) → n ≤ i / 64 → PutIn n ws i ws
+put_same n ws i h =
+    record { as_long = refl; in_bits = λ small. small; members = λ j. rw (le-ltb i (64 * n) (omega arith)) }

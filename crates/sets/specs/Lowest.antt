@@ -1,8 +1,6 @@
 -- The lowest action of a set.
-use Rattle.std.specs.Prelude.{ℕ, ◌<◌, true, false, ◌≡◌}
+use Rattle.std.specs.Prelude.{ℕ, ◌<◌, true, false, ◌≡◌, Option, Some, None}
 use Rattle.sets.specs.Sets.{bit}
-use Rattle.sets.specs.declared.actions.LowestAction.{LowestAction}
-use Rattle.sets.specs.declared.actions.LowestAction.TheVariants.{Is, Nothing}
 
 -- a is the lowest of the w lowest bits of n that is set
 pub record IsLowest (n w a : ℕ) : Type 0 where
@@ -11,6 +9,6 @@ pub record IsLowest (n w a : ℕ) : Type 0 where
   pub clear_below : (k : ℕ) → k < a → bit n k ≡ false
 
 -- an answer names the lowest action, or says that there is none
-abbrev pub LowestOf : ℕ → LowestAction → Type 0
-LowestOf n (Is a) = IsLowest n 16 a
-LowestOf n Nothing = (k : ℕ) → bit n k ≡ false
+abbrev pub LowestOf : ℕ → Option ℕ → Type 0
+LowestOf n (Some a) = IsLowest n 16 a
+LowestOf n None = (k : ℕ) → bit n k ≡ false

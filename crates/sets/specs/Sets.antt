@@ -25,8 +25,12 @@ unfoldable pub count : (ℕ → Bool) → ℕ → ℕ
 count f zero = 0
 count f (suc n) = count f n + one (f n)
 
--- the words after are those before with the place i, where a set has room for it, and no word outgrows its 64 bits
-pub record Put (before : List ℕ) (i : ℕ) (after : List ℕ) : Type 0 where
+-- the words after are those before with the place i, where n words have room for it, and no word outgrows its 64 bits
+pub record PutIn (n : ℕ) (before : List ℕ) (i : ℕ) (after : List ℕ) : Type 0 where
   pub as_long : length after ≡ length before
   pub in_bits : ((k : ℕ) → get_or before k 0 < 2 ^ 64) → (k : ℕ) → get_or after k 0 < 2 ^ 64
-  pub members : (j : ℕ) → member after j ≡ (ltb i set_room && eqb j i || member before j)
+  pub members : (j : ℕ) → member after j ≡ (ltb i (64 * n) && eqb j i || member before j)
+
+-- the same of a set of a job's places
+abbrev pub Put : List ℕ → ℕ → List ℕ → Type 0
+Put = PutIn set_words

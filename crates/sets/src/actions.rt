@@ -3,15 +3,9 @@ ghost use Rattle.std.specs.Prelude.{◌≡◌, false, ◌&&◌, ◌||◌, not, �
 ghost use Rattle.sets.specs.Sets.{bit};
 ghost use Rattle.sets.specs.Lowest.{LowestOf};
 
-#[derive(Clone, Copy)]
+#[derive(Clone, Copy, Debug, PartialEq, Eq)]
 pub struct ActionSet {
     pub bits: u16,
-}
-
-#[derive(Clone, Copy)]
-pub enum LowestAction {
-    Is(u8),
-    Nothing,
 }
 
 impl ActionSet {
@@ -44,12 +38,12 @@ impl ActionSet {
     }
 
     // The lowest action of the set.
-    pub fn lowest(self) -> LowestAction
+    pub fn lowest(self) -> Option<u8>
         ensures { LowestOf self.bits result }
     {
         if self.bits == 0 {
-            return LowestAction::Nothing;
+            return None;
         }
-        LowestAction::Is(u16::trailing_zeros(self.bits) as u8)
+        Some(u16::trailing_zeros(self.bits) as u8)
     }
 }

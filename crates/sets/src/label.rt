@@ -6,19 +6,17 @@ ghost use Rattle.sets.specs.Sets.{bit};
 pub fn has_proposition(label: u8, i: u8) -> bool
     ensures { result ≡ bit label i }
 {
-    if i < 8 { (label >> i) % 2 == 1 } else { false }
+    i < 8 && (label >> i) % 2 == 1
 }
 
 // Whether the label lies below 2^p: no proposition from p on is true in it.
 pub fn lies_below(label: u8, p: u8) -> bool
     ensures { result ≡ ltb label (2 ^ p) }
 {
-    let mut i = p;
-    while i < 8 {
+    for i in p..8 {
         if has_proposition(label, i) {
             return false;
         }
-        i += 1;
     }
     true
 }
