@@ -1,40 +1,36 @@
 -- The laws of words and lines: how a text's words and lines go on from a position, by the byte that stands there.
 use Prim.Native.Nat.{ℕ, suc, ◌+◌, ◌-◌, ◌≤◌, ◌<◌}
-use mathlib.Core.Bool.{Bool, true, false, false≢true}
+use mathlib.Core.Bool.{Bool, true, false, not, ◌&&◌, false≢true}
 use mathlib.Core.List.{List, [], ◌∷◌}
-use mathlib.Core.Logic.{inl, inr, ⊎_elim}
+use mathlib.Core.Logic.{◌⊎◌, inl, inr, ⊎_elim}
 use types.Run.{OneOf}
 use mathlib.Core.Path.{◌≡◌, refl, sym, ap, ap₂, ◌∙◌}
 use native.Mathlib.Numerals.{add-one}
 use native.Mathlib.Omega.{arith}
 use borrow.Author.Tests.{eq-eqb, ne_eqb, eqb-true, eqb-false, le-leb, lt-leb}
 use lib.Dec.{eqb}
+use lib.Pointwise.{pointwise}
+use denote.Enum.Bare.{sameb, differs_true}
+use Rattle.lines.specs.contracts.word.Class.{the_type}
 use lib.ListN.{length, take, drop, get_or, drop_of_length-le}
 use lib.Seq.{drop-cons, drop-drop}
-use Rattle.lines.specs.Words.{class, in_word, glue, words, lines_after, lines, lines_from, letters, blanks, part, NextWord, NextLine, same_word}
+use Rattle.lines.specs.declared.word.Class.{Class}
+use Rattle.lines.specs.Words.{class, class_number, in_word, glue, words, lines_after, lines, lines_from, run, letters, blanks, part, NextWord, NextLine, same_word}
 
 -- ---- by the first byte
 
--- the letters and the blanks that begin these bytes, by the first of them
-pub letters_more : (b : ℕ) (bs : List ℕ) → class b ≡ 3 → letters (b ∷ bs) ≡ suc (letters bs)
-unfolding letters
-letters_more b bs e = rw (eq-eqb (class b) 3 e)
+-- the bytes of a class that begin these bytes, by the first of them
+pub run_more : (c b : ℕ) (bs : List ℕ) → class b ≡ c → run c (b ∷ bs) ≡ suc (run c bs)
+unfolding run
+run_more c b bs e = rw (eq-eqb (class b) c e)
 
-pub letters_none : (b : ℕ) (bs : List ℕ) → (class b ≡ 3 → ⊥) → letters (b ∷ bs) ≡ 0
-unfolding letters
-letters_none b bs n = rw (ne_eqb (class b) 3 n)
-
-pub blanks_more : (b : ℕ) (bs : List ℕ) → class b ≡ 0 → blanks (b ∷ bs) ≡ suc (blanks bs)
-unfolding blanks
-blanks_more b bs e = rw (eq-eqb (class b) 0 e)
-
-pub blanks_none : (b : ℕ) (bs : List ℕ) → (class b ≡ 0 → ⊥) → blanks (b ∷ bs) ≡ 0
-unfolding blanks
-blanks_none b bs n = rw (ne_eqb (class b) 0 n)
+pub run_none : (c b : ℕ) (bs : List ℕ) → (class b ≡ c → ⊥) → run c (b ∷ bs) ≡ 0
+unfolding run
+run_none c b bs n = rw (ne_eqb (class b) c n)
 
 -- blanks are no words
 pub words_blanks : (xs : List ℕ) → words xs ≡ words (drop (blanks xs) xs)
-unfolding words blanks
+unfolding words run
 words_blanks [] = refl
 words_blanks (b ∷ bs) = go (eqb (class b) 0) refl (words_blanks bs)
   where
@@ -43,11 +39,11 @@ words_blanks (b ∷ bs) = go (eqb (class b) 0) refl (words_blanks bs)
         let e : class b ≡ 0 = eqb-true (class b) 0 z in
         let l : eqb (class b) 3 ≡ false = ne_eqb (class b) 3 (omega arith) in
         let m : eqb (class b) 2 ≡ false = ne_eqb (class b) 2 (omega arith) in
-        rw (blanks_more b bs e) (head e ∙ r)
+        rw (run_more 0 b bs e) (head e ∙ r)
       where
         head : class b ≡ 0 → words (b ∷ bs) ≡ words bs
         head e = rw (e, words)
-    go false z r = rw (blanks_none b bs (eqb-false (class b) 0 z))
+    go false z r = rw (run_none 0 b bs (eqb-false (class b) 0 z))
 
 -- a word by itself, or the end
 pub words_mark : (b : ℕ) (bs : List ℕ) → class b ≡ 2 → words (b ∷ bs) ≡ (b ∷ []) ∷ words bs
@@ -60,13 +56,13 @@ words_end b bs l m n = rw (ne_eqb (class b) 3 l, ne_eqb (class b) 2 m, ne_eqb (c
 
 -- the letters that begin these bytes are the first word
 pub words_letters : (xs : List ℕ) → in_word xs ≡ true → words xs ≡ take (letters xs) xs ∷ words (drop (letters xs) xs)
-unfolding in_word words letters glue
+unfolding in_word words run glue
 words_letters [] i = absurd (false≢true i)
 words_letters (b ∷ bs) i = go (in_word bs) refl (words_letters bs)
   where
     lone : (ys : List ℕ) → in_word ys ≡ false → letters ys ≡ 0
     lone [] e = refl
-    lone (y ∷ ys) e = letters_none y ys (eqb-false (class y) 3 e)
+    lone (y ∷ ys) e = run_none 3 y ys (eqb-false (class y) 3 e)
 
     letter : class b ≡ 3
     letter = eqb-true (class b) 3 i
@@ -76,8 +72,8 @@ words_letters (b ∷ bs) i = go (in_word bs) refl (words_letters bs)
 
     go : (z : Bool) → in_word bs ≡ z → (in_word bs ≡ true → words bs ≡ take (letters bs) bs ∷ words (drop (letters bs) bs))
         → words (b ∷ bs) ≡ take (letters (b ∷ bs)) (b ∷ bs) ∷ words (drop (letters (b ∷ bs)) (b ∷ bs))
-    go true z r = rw (letters_more b bs letter) (begun ∙ rw (z, r z, glue))
-    go false z r = rw (letters_more b bs letter, lone bs z) (begun ∙ rw (z, glue))
+    go true z r = rw (run_more 3 b bs letter) (begun ∙ rw (z, r z, glue))
+    go false z r = rw (run_more 3 b bs letter, lone bs z) (begun ∙ rw (z, glue))
 
 -- ---- a position further on
 
@@ -85,35 +81,25 @@ words_letters (b ∷ bs) i = go (in_word bs) refl (words_letters bs)
 pub at_byte : (t : List ℕ) (i : ℕ) → i < length t → drop i t ≡ get_or t i 0 ∷ drop (i + 1) t
 at_byte t i h = rw (add-one i) (drop-cons t i 0 h)
 
-pub letters_step : (t : List ℕ) (i : ℕ) → i < length t → class (get_or t i 0) ≡ 3 → i + letters (drop i t) ≡ i + 1 + letters (drop (i + 1) t)
-letters_step t i h e = rw (at_byte t i h, letters_more (get_or t i 0) (drop (i + 1) t) e) (omega arith)
+pub run_step : (c : ℕ) (t : List ℕ) (i : ℕ) → i < length t → class (get_or t i 0) ≡ c → i + run c (drop i t) ≡ i + 1 + run c (drop (i + 1) t)
+run_step c t i h e = rw (at_byte t i h, run_more c (get_or t i 0) (drop (i + 1) t) e) (omega arith)
 
-pub letters_stop : (t : List ℕ) (i : ℕ) → i < length t → (class (get_or t i 0) ≡ 3 → ⊥) → letters (drop i t) ≡ 0
-letters_stop t i h n = rw (at_byte t i h) (letters_none (get_or t i 0) (drop (i + 1) t) n)
+pub run_stop : (c : ℕ) (t : List ℕ) (i : ℕ) → i < length t → (class (get_or t i 0) ≡ c → ⊥) → run c (drop i t) ≡ 0
+run_stop c t i h n = rw (at_byte t i h) (run_none c (get_or t i 0) (drop (i + 1) t) n)
 
-pub letters_past : (t : List ℕ) (i : ℕ) → length t ≤ i → letters (drop i t) ≡ 0
-unfolding letters
-letters_past t i h = rw (drop_of_length-le t {i = i} h)
-
-pub blanks_step : (t : List ℕ) (i : ℕ) → i < length t → class (get_or t i 0) ≡ 0 → i + blanks (drop i t) ≡ i + 1 + blanks (drop (i + 1) t)
-blanks_step t i h e = rw (at_byte t i h, blanks_more (get_or t i 0) (drop (i + 1) t) e) (omega arith)
-
-pub blanks_stop : (t : List ℕ) (i : ℕ) → i < length t → (class (get_or t i 0) ≡ 0 → ⊥) → blanks (drop i t) ≡ 0
-blanks_stop t i h n = rw (at_byte t i h) (blanks_none (get_or t i 0) (drop (i + 1) t) n)
-
-pub blanks_past : (t : List ℕ) (i : ℕ) → length t ≤ i → blanks (drop i t) ≡ 0
-unfolding blanks
-blanks_past t i h = rw (drop_of_length-le t {i = i} h)
+pub run_past : (c : ℕ) (t : List ℕ) (i : ℕ) → length t ≤ i → run c (drop i t) ≡ 0
+unfolding run
+run_past c t i h = rw (drop_of_length-le t {i = i} h)
 
 -- after its blanks a text has no blank
 pub blanks_over : (xs : List ℕ) → blanks (drop (blanks xs) xs) ≡ 0
-unfolding blanks
+unfolding run
 blanks_over [] = refl
 blanks_over (b ∷ bs) = go (eqb (class b) 0) refl (blanks_over bs)
   where
     go : (z : Bool) → eqb (class b) 0 ≡ z → blanks (drop (blanks bs) bs) ≡ 0 → blanks (drop (blanks (b ∷ bs)) (b ∷ bs)) ≡ 0
-    go true z r = rw (blanks_more b bs (eqb-true (class b) 0 z)) r
-    go false z r = rw (blanks_none b bs (eqb-false (class b) 0 z)) (blanks_none b bs (eqb-false (class b) 0 z))
+    go true z r = rw (run_more 0 b bs (eqb-true (class b) 0 z)) r
+    go false z r = rw (run_none 0 b bs (eqb-false (class b) 0 z)) (run_none 0 b bs (eqb-false (class b) 0 z))
 
 -- ---- the next word
 
@@ -140,7 +126,7 @@ module _ (t : List ℕ) (start : ℕ) where
       }
     where
       blank : class (get_or t start 0) ≡ 0 → ⊥
-      blank e = let q : start + blanks (drop start t) ≡ start + 1 + blanks (drop (start + 1) t) = blanks_step t start h e in omega arith
+      blank e = let q : start + blanks (drop start t) ≡ start + 1 + blanks (drop (start + 1) t) = run_step 0 t start h e in omega arith
 
   pub mark_here : start < length t → class (get_or t start 0) ≡ 2 → NextWord t start start (start + 1)
   mark_here h e =
@@ -171,7 +157,7 @@ module _ (t : List ℕ) (start : ℕ) where
       begins = rw (at_byte t start h) (eq-eqb (class (get_or t start 0)) 3 e)
 
       some : start ≡ end → ⊥
-      some q = let p : start + letters (drop start t) ≡ start + 1 + letters (drop (start + 1) t) = letters_step t start h e in omega arith
+      some q = let p : start + letters (drop start t) ≡ start + 1 + letters (drop (start + 1) t) = run_step 3 t start h e in omega arith
 
       long : end - start ≡ letters (drop start t)
       long = omega arith
@@ -237,6 +223,14 @@ same_word_self (x ∷ xs) = rw (eq-eqb x x refl) (same_word_self xs)
 pub same_word_eq : (x y : List ℕ) → x ≡ y → same_word x y ≡ true
 same_word_eq x y e = rw e (same_word_self y)
 
+-- the test of two slices is that of two words
+pub same_pointwise : (x y : List ℕ) → pointwise eqb x y ≡ same_word x y
+unfolding same_word
+same_pointwise [] [] = refl
+same_pointwise [] (y ∷ ys) = refl
+same_pointwise (x ∷ xs) [] = refl
+same_pointwise (x ∷ xs) (y ∷ ys) = ap (λ b. eqb x y && b) (same_pointwise xs ys)
+
 -- ---- what a byte is
 
 pub class_of_blank : (b : ℕ) → OneOf (9 ∷ (13 ∷ (32 ∷ []))) b → 0 ≡ class b
@@ -265,6 +259,32 @@ class_of_letter b x y z =
       ne_eqb b 124 (λ e. z (inr (inr e))),
       ne_eqb b 44 (λ e. z (inl e)),
     )
+
+-- classes that the test tells apart have numbers of their own
+pub other_class : (x y : Class) → not (sameb the_type x y) ≡ true → class_number x ≡ class_number y → ⊥
+other_class x y n e = differs_true the_type x y n (same_number x y e)
+  where
+    same_number : (x y : Class) → class_number x ≡ class_number y → x ≡ y
+    same_number Class.Blank Class.Blank e = refl
+    same_number Class.Blank Class.End e = absurd (omega arith)
+    same_number Class.Blank Class.Mark e = absurd (omega arith)
+    same_number Class.Blank Class.Letter e = absurd (omega arith)
+    same_number Class.End Class.Blank e = absurd (omega arith)
+    same_number Class.End Class.End e = refl
+    same_number Class.End Class.Mark e = absurd (omega arith)
+    same_number Class.End Class.Letter e = absurd (omega arith)
+    same_number Class.Mark Class.Blank e = absurd (omega arith)
+    same_number Class.Mark Class.End e = absurd (omega arith)
+    same_number Class.Mark Class.Mark e = refl
+    same_number Class.Mark Class.Letter e = absurd (omega arith)
+    same_number Class.Letter Class.Blank e = absurd (omega arith)
+    same_number Class.Letter Class.End e = absurd (omega arith)
+    same_number Class.Letter Class.Mark e = absurd (omega arith)
+    same_number Class.Letter Class.Letter e = refl
+
+-- neither a blank nor the end is part of a word
+pub no_word_class : (x : Class) → (x ≡ Class.Blank) ⊎ (x ≡ Class.End) → class_number x ≤ 1
+no_word_class x = ⊎_elim (λ (e : x ≡ Class.Blank). rw e (omega arith)) (λ (e : x ≡ Class.End). rw e (omega arith))
 
 -- ---- a word that was found, or not
 

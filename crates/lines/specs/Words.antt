@@ -1,5 +1,6 @@
 -- The words of a line, and the lines of a text.
 use Rattle.std.specs.Prelude.{ℕ, suc, ◌+◌, ◌-◌, ◌≤◌, ◌<◌, Bool, true, false, cond, ◌&&◌, ◌||◌, List, [], ◌∷◌, ◌≡◌, eqb, leb, length, take, drop}
+use Rattle.lines.specs.declared.word.Class.{Class}
 
 -- A byte's class. 0, a blank: a space, a tab or a carriage return. 1, where a line's words end: a line feed, or the # of a remark.
 -- 2, a mark, a word by itself: a colon, a bar or a comma. 3, a letter: every other byte.
@@ -9,6 +10,13 @@ class b =
     (cond (eqb b 10 || eqb b 35) 1
     (cond (eqb b 58 || (eqb b 124 || eqb b 44)) 2
     3))
+
+-- the number of a class
+abbrev pub class_number : Class → ℕ
+class_number Class.Blank = 0
+class_number Class.End = 1
+class_number Class.Mark = 2
+class_number Class.Letter = 3
 
 abbrev pub is_letter : ℕ → Bool
 is_letter b = eqb (class b) 3
@@ -45,15 +53,17 @@ lines t = words t ∷ lines_after t
 abbrev pub lines_from : List ℕ → ℕ → List (List (List ℕ))
 lines_from t at = cond (leb at (length t)) (lines (drop at t)) []
 
--- how many letters these bytes begin with
-unfoldable pub letters : List ℕ → ℕ
-letters [] = 0
-letters (b ∷ bs) = cond (is_letter b) (suc (letters bs)) 0
+-- how many bytes of a class these bytes begin with
+unfoldable pub run : ℕ → List ℕ → ℕ
+run c [] = 0
+run c (b ∷ bs) = cond (eqb (class b) c) (suc (run c bs)) 0
 
--- how many blanks these bytes begin with
-unfoldable pub blanks : List ℕ → ℕ
-blanks [] = 0
-blanks (b ∷ bs) = cond (eqb (class b) 0) (suc (blanks bs)) 0
+-- how many letters these bytes begin with, and how many blanks
+abbrev pub letters : List ℕ → ℕ
+letters = run 3
+
+abbrev pub blanks : List ℕ → ℕ
+blanks = run 0
 
 -- the bytes from start to end
 abbrev pub part : List ℕ → ℕ → ℕ → List ℕ

@@ -1,7 +1,7 @@
 // Tables of names: two numbers a name, its first byte in a text and where it ends.
-ghost use Rattle.std.specs.Prelude.{◌≡◌, ◌/◌, ◌≤◌, ◌<◌, length, drop};
+ghost use Rattle.std.specs.Prelude.{◌≡◌, ◌/◌, ◌≤◌, ◌<◌, length, drop, IfSome};
 ghost use Rattle.lines.specs.Words.{words, part, same_word};
-ghost use Rattle.lines.specs.Names.{Lie, Holds, table, push, pushes, after_key, names, index_of, name};
+ghost use Rattle.lines.specs.Names.{Lie, Holds, table, push, pushes, after_key, names, index_of, found, name};
 
 use crate::word::{is_same, next_line, next_word};
 
@@ -16,19 +16,18 @@ fn is_name(text: &[u8], spans: &[usize], n: usize, k: usize, word: &[u8]) -> boo
     is_same(&text[start..end], word)
 }
 
-// The number of the first name of a table that is spelt like the word, or how many names there are.
-pub fn find(text: &[u8], spans: &[usize], n: usize, word: &[u8]) -> usize
+// The number of the first name of a table that is spelt like the word.
+pub fn find(text: &[u8], spans: &[usize], n: usize, word: &[u8]) -> Option<usize>
     requires { Lie text.now spans.now n }
-    ensures { result ≡ index_of (table text.now spans.now n) word.now }
+    ensures index { found result n ≡ index_of (table text.now spans.now n) word.now }
+    ensures within { IfSome result (λ k. k < n) }
 {
-    let mut k: usize = 0;
-    while k < n {
+    for k in 0..n {
         if is_name(text, spans, n, k, word) {
-            return k;
+            return Some(k);
         }
-        k += 1;
     }
-    k
+    None
 }
 
 // Puts a name to a table, where it has room for one more.
@@ -87,10 +86,7 @@ fn put_line(spans: &mut [usize], n: usize, text: &[u8], at: usize, key: &[u8]) -
     if from == to {
         return n;
     }
-    if !is_same(&text[start..end], key) {
-        return n;
-    }
-    if !is_same(&text[from..to], b":") {
+    if !is_same(&text[start..end], key) || !is_same(&text[from..to], b":") {
         return n;
     }
     put_words(spans, n, text, to)

@@ -32,8 +32,7 @@ fn add_words(
         if start == end {
             return;
         }
-        let x = find(named, spans, n, &text[start..end]);
-        if x < n {
+        if let Some(x) = find(named, spans, n, &text[start..end]) {
             crate::numbers::add(set, base + x);
         }
         i = end;
@@ -92,8 +91,7 @@ fn add_action(
     if start == end {
         return;
     }
-    let k = find(text, actions, a, &text[start..end]);
-    if k < a {
+    if let Some(k) = find(text, actions, a, &text[start..end]) {
         add_after(set, text, end, b"->", text, states, s, (i * 16 + k) * 512);
     }
 }
@@ -121,8 +119,7 @@ fn move_line(
     if start == end {
         return;
     }
-    let i = find(text, states, s, &text[start..end]);
-    if i < s {
+    if let Some(i) = find(text, states, s, &text[start..end]) {
         add_action(set, text, end, states, s, actions, a, i);
     }
 }
@@ -152,8 +149,7 @@ fn fact_line(
     if start == end {
         return;
     }
-    let i = find(text, states, s, &text[start..end]);
-    if i < s {
+    if let Some(i) = find(text, states, s, &text[start..end]) {
         add_after(set, text, end, b"is", named, facts, f, 8 * i + shift);
     }
 }

@@ -1,54 +1,50 @@
 // The words of a line, found by their positions, and where the next line begins.
 ghost use Rattle.std.specs.Prelude.{◌≡◌, ◌+◌, ◌≤◌, length, drop};
-ghost use Rattle.lines.specs.Words.{class, letters, blanks, NextWord, NextLine, same_word};
+ghost use Rattle.lines.specs.Words.{class, class_number, run, blanks, NextWord, NextLine, same_word};
+
+// The byte that ends a line.
+const LINE_FEED: u8 = b'\n';
 
 // A word of a text, from its first byte to where it ends; where these are the same there is none.
-#[derive(Clone, Copy)]
+#[derive(Clone, Copy, Debug, PartialEq, Eq)]
 pub struct Word {
     pub start: usize,
     pub end: usize,
 }
 
-// What a byte is: 0 a blank, 1 where a line's words end, 2 a mark, 3 a letter.
-fn class_of(b: u8) -> u8
-    ensures { result ≡ class b }
-{
-    match b {
-        32 | 9 | 13 => 0,
-        10 | 35 => 1,
-        58 | 124 | 44 => 2,
-        _ => 3,
+// What a byte is to a line: a blank, where the line's words end, a mark that is a word by itself, or a letter.
+#[derive(Clone, Copy, Debug, PartialEq, Eq)]
+pub enum Class {
+    Blank,
+    End,
+    Mark,
+    Letter,
+}
+
+impl From<u8> for Class {
+    ghost from_gives = { λ b c. class_number c ≡ class b };
+
+    fn from(b: u8) -> Class {
+        match b {
+            b' ' | b'\t' | b'\r' => Class::Blank,
+            b'\n' | b'#' => Class::End,
+            b':' | b'|' | b',' => Class::Mark,
+            _ => Class::Letter,
+        }
     }
 }
 
-// Where the letters end that stand from a position on.
-fn letters_end(text: &[u8], at: usize) -> usize
+// Where the bytes of a class end that stand from a position on.
+fn class_end(text: &[u8], at: usize, class: Class) -> usize
     requires { at ≤ length text.now }
-    ensures { (result ≡ at + letters (drop at text.now)) × (result ≤ length text.now) }
+    ensures { (result ≡ at + run (class_number class) (drop at text.now)) × (result ≤ length text.now) }
 {
-    let mut i = at;
-    while i < text.len() {
-        if class_of(text[i]) != 3 {
+    for i in at..text.len() {
+        if Class::from(text[i]) != class {
             return i;
         }
-        i += 1;
     }
-    i
-}
-
-// Where the blanks end that stand from a position on.
-fn blanks_end(text: &[u8], at: usize) -> usize
-    requires { at ≤ length text.now }
-    ensures { (result ≡ at + blanks (drop at text.now)) × (result ≤ length text.now) }
-{
-    let mut i = at;
-    while i < text.len() {
-        if class_of(text[i]) != 0 {
-            return i;
-        }
-        i += 1;
-    }
-    i
+    text.len()
 }
 
 // The word that begins at a position where no blank is.
@@ -60,18 +56,12 @@ fn word_at(text: &[u8], start: usize) -> Word
     if text.len() <= start {
         return Word { start, end: start };
     }
-    let class = class_of(text[start]);
-    if class == 3 {
-        let end = letters_end(text, start);
-        return Word { start, end };
-    }
-    if class == 2 {
-        return Word {
-            start,
-            end: start + 1,
-        };
-    }
-    Word { start, end: start }
+    let end = match Class::from(text[start]) {
+        Class::Letter => class_end(text, start, Class::Letter),
+        Class::Mark => start + 1,
+        Class::Blank | Class::End => start,
+    };
+    Word { start, end }
 }
 
 // The next word of the line from a position on.
@@ -79,7 +69,7 @@ pub fn next_word(text: &[u8], at: usize) -> Word
     requires { at ≤ length text.now }
     ensures { NextWord text.now at result.start result.end }
 {
-    let start = blanks_end(text, at);
+    let start = class_end(text, at, Class::Blank);
     word_at(text, start)
 }
 
@@ -88,19 +78,17 @@ pub fn next_line(text: &[u8], at: usize) -> usize
     requires { at ≤ length text.now }
     ensures { NextLine text.now at result }
 {
-    let mut i = at;
-    while i < text.len() {
-        if text[i] == 10 {
+    for i in at..text.len() {
+        if text[i] == LINE_FEED {
             return i + 1;
         }
-        i += 1;
     }
-    i + 1
+    text.len() + 1
 }
 
 // Whether two words are the same.
 pub fn is_same(a: &[u8], b: &[u8]) -> bool
     ensures { result ≡ same_word a.now b.now }
 {
-    check::same(a, b)
+    a == b
 }

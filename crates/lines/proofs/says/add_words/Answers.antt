@@ -26,30 +26,30 @@ slice_bounds-find-start c = let n = c.next_word-w.ensures in search rules
 pub slice_bounds-find-end : goal.slice_bounds-find-end
 slice_bounds-find-end c = let n = c.next_word-w.ensures in search rules
 
-pub find-x-requires : goal.find-x-requires
-find-x-requires c = c.requires.lie
+pub find-requires : goal.find-requires
+find-requires c = c.requires.lie
 
 pub overflow_add-base : goal.overflow_add-base
 overflow_add-base c =
     let p = c.requires.n_bound in
-    omega (arith, p.0, p.1, c.if-x-n.true)
+    omega (arith, p.0, p.1, c.in-Some.ensures.within)
 
 pub add-requires : goal.add-requires
 add-requires c =
     let p = c.requires.n_bound in
-    omega (arith, p.0, p.1, c.if-x-n.true, c.loop-i.invariant.1.as_long)
+    omega (arith, p.0, p.1, c.in-Some.ensures.within, c.loop-i.invariant.1.as_long)
 
-pub loop-i-smaller-then-x-n : goal.loop-i-smaller-then-x-n
-loop-i-smaller-then-x-n c =
+pub loop-i-smaller-in-Some : goal.loop-i-smaller-in-Some
+loop-i-smaller-in-Some c =
     let n = c.next_word-w.ensures in
     omega (arith, n.forward, n.order, n.inside, c.if-start-end.false, c.loop-i-test.true)
 
-pub loop-i-preserved-then-x-n : goal.loop-i-preserved-then-x-n
-loop-i-preserved-then-x-n c =
+pub loop-i-preserved-in-Some : goal.loop-i-preserved-in-Some
+loop-i-preserved-in-Some c =
     let n = c.next_word-w.ensures in (
       n.inside,
       gaining_more c.loop-i.invariant.1 _ c.add.ensures
-          (one_named _ _ n _ c.if-start-end.false c.find-x.ensures (rw table_length c.if-x-n.true)),
+          (one_named _ _ n _ c.if-start-end.false c.in-Some.ensures.index (rw table_length c.in-Some.ensures.within)),
     )
 
 pub loop-i-smaller : goal.loop-i-smaller
@@ -62,7 +62,7 @@ loop-i-preserved c =
     let n = c.next_word-w.ensures in (
       n.inside,
       gaining_skip c.loop-i.invariant.1 _
-          (other_named _ _ n _ c.if-start-end.false c.find-x.ensures (rw table_length c.if-x-n.false)),
+          (other_named _ _ n _ c.if-start-end.false c.in_default.ensures.index (rw table_length (omega arith))),
     )
 
 pub shape_of-set : goal.shape_of-set

@@ -1,4 +1,5 @@
 -- `says::fact_line` meets its contract: by the line's first word.
+use native.Mathlib.Omega.{arith}
 use Rattle.lines.proofs.Adding.{gains_none}
 use Rattle.lines.proofs.Naming.{table_length}
 use Rattle.lines.proofs.Saying.{gains_same, fact_nothing, fact_other, fact_known}
@@ -7,13 +8,14 @@ use Rattle.lines.proofs.says.fact_line.Goals as goal
 pub returns-then-start-end : goal.returns-then-start-end
 returns-then-start-end c = gains_none _ _ (fact_nothing c.next_word-w.ensures _ _ _ c.if-start-end.true)
 
-pub returns-then-i-s : goal.returns-then-i-s
-returns-then-i-s c =
+pub returns-in-Some : goal.returns-in-Some
+returns-in-Some c =
+    let f = c.in-Some.ensures in
     gains_same _
-    (fact_known c.next_word-w.ensures _ _ _ _ c.if-start-end.false c.find-i.ensures (rw table_length c.if-i-s.true))
+    (fact_known c.next_word-w.ensures _ _ _ _ c.if-start-end.false f.index (rw table_length f.within))
     c.add_after.ensures
 
-pub returns-else-i-s : goal.returns-else-i-s
-returns-else-i-s c =
+pub returns-in_default : goal.returns-in_default
+returns-in_default c =
     gains_none _ _
-    (fact_other c.next_word-w.ensures _ _ _ _ c.if-start-end.false c.find-i.ensures (rw table_length c.if-i-s.false))
+    (fact_other c.next_word-w.ensures _ _ _ _ c.if-start-end.false c.in_default.ensures.index (rw table_length (omega arith)))

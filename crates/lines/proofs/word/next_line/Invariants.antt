@@ -1,12 +1,8 @@
 -- `word::next_line` meets its contract: there is no line feed from the position on to i.
-use Prim.Native.Nat.{◌-◌, ◌≤◌}
 use mathlib.Core.Path.{◌≡◌}
-use lib.ListN.{length, drop}
+use lib.ListN.{drop}
 use Rattle.lines.specs.Words.{lines_after}
 use Rattle.lines.proofs.word.next_line.Given as goal
 
 abbrev pub invariant-loop-i : goal.invariant-loop-i
-invariant-loop-i l = (l.at ≤ l.i) × (l.i ≤ length l.text) × (lines_after (drop l.at l.text) ≡ lines_after (drop l.i l.text))
-
-abbrev pub decreases-loop-i : goal.decreases-loop-i
-decreases-loop-i l = length l.text - l.i
+invariant-loop-i l = lines_after (drop l.at l.text) ≡ lines_after (drop l.i l.text)

@@ -1,7 +1,7 @@
--- `word::class_of` meets its contract: each byte of a class in turn.
+-- A byte's class is that of the meaning: each byte of a class in turn.
 use Rattle.std.proofs.Common.{rules}
 use Rattle.lines.proofs.Wording.{class_of_blank, class_of_end, class_of_mark, class_of_letter}
-use Rattle.lines.proofs.word.class_of.Goals as goal
+use Rattle.lines.proofs.word.ClassFromU8.from.Goals as goal
 
 pub returns-in-32 : goal.returns-in-32
 returns-in-32 c = class_of_blank _ c.in-32.is
