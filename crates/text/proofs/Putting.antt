@@ -3,10 +3,12 @@ use Prim.Native.Nat.{ℕ, zero, suc, ◌+◌, ◌-◌, ◌≤◌, ◌<◌, min}
 use mathlib.Core.List.{List, [], ◌∷◌, ◌++◌, append_assoc}
 use mathlib.Core.Path.{◌≡◌, refl, sym, ap, subst, ◌∙◌}
 use native.Mathlib.Omega.{arith}
-use lib.ListN.{length, take, drop, get_or, set}
-use lib.Seq.{take-nil, drop-nil, take_all, take-suc, set_out}
+use lib.ListN.{length, take, drop, get_or}
+use lib.Seq.{take-nil, drop-nil, take_all, take-suc}
 use native.Mathlib.Numerals.{add-one}
+use Rattle.text.specs.declared.Line.{Line}
 use Rattle.text.specs.PutText.{PutText}
+use Rattle.text.specs.Puts.{Puts}
 
 -- The same by recursion on the line: the bytes, and the position.
 laid : List ℕ → ℕ → List ℕ → List ℕ
@@ -70,13 +72,6 @@ reached_none [] at = refl
 reached_none (x ∷ l) (suc at) = ap suc (reached_none l at)
 reached_none (x ∷ l) zero = refl
 
--- a store past the line's end changes nothing
-laid_byte : (l : List ℕ) (at x : ℕ) → set l at x ≡ laid l at (x ∷ [])
-unfolding laid
-laid_byte [] at x = refl
-laid_byte (y ∷ l) (suc at) x = ap (λ (t : List ℕ). y ∷ t) (laid_byte l at x)
-laid_byte (y ∷ l) zero x = ap (λ (t : List ℕ). x ∷ t) (laid_none l zero)
-
 -- what is put fixes the line and the position
 laid_of : {l : List ℕ} {at : ℕ} {w after : List ℕ} {next : ℕ} → PutText l at w after next → after ≡ laid l at w
 laid_of {l} {at} {w} p = p.bytes ∙ sym (laid_is l at w)
@@ -95,28 +90,8 @@ put_then {l} {at} {v} {w} a b =
     as_put (laid_of b ∙ rw (laid_of a, reached_of a) (laid_laid l at v w))
     (reached_of b ∙ rw (laid_of a, reached_of a) (reached_reached l at v w))
 
--- the same where the first text is two words with a space between them
-pub put_pair_then : {l m n w : List ℕ} {at p q : ℕ} (u v : List ℕ) → PutText l at (u ++ (32 ∷ v)) m p → PutText m p w n q
-    → PutText l at (u ++ (32 ∷ (v ++ w))) n q
-put_pair_then {l} {n = n} {w} {at} {q = q} u v a b =
-    subst (λ (t : List ℕ). PutText l at t n q) (append_assoc u (32 ∷ v) w) (put_then a b)
-
 pub put_none : (l : List ℕ) (at : ℕ) → PutText l at [] l at
 put_none l at = as_put (laid_none l at) (reached_none l at)
-
-pub put_byte : (l : List ℕ) (at x : ℕ) → at < length l → PutText l at (x ∷ []) (set l at x) (at + 1)
-put_byte l at x h = as_put (laid_byte l at x) (omega (arith, reached_is l at (x ∷ [])))
-
-pub put_nowhere : (l : List ℕ) (at x : ℕ) → length l ≤ at → PutText l at (x ∷ []) l at
-put_nowhere l at x h = as_put (sym (set_out l at x h) ∙ laid_byte l at x) (omega (arith, reached_is l at (x ∷ [])))
-
--- the loop that puts a word byte by byte: one turn, and the end
-pub put_more : {l m n : List ℕ} {at p q : ℕ} (w : List ℕ) (i : ℕ) → i < length w → PutText l at (take i w) m p
-    → PutText m p (get_or w i 0 ∷ []) n q → PutText l at (take (i + 1) w) n q
-put_more w i h a b = rw (add-one i, take-suc w i 0 h) (put_then a b)
-
-pub put_all : {l m : List ℕ} {at p : ℕ} (w : List ℕ) (i : ℕ) → length w ≤ i → PutText l at (take i w) m p → PutText l at w m p
-put_all w i h a = rw (take_all i w h) at a
 
 -- a line keeps its length
 laid_length : (l : List ℕ) (at : ℕ) (w : List ℕ) → length (laid l at w) ≡ length l
@@ -140,3 +115,23 @@ put_whole {l} {w} {at = at} h a = (
 -- Two results that one promise allows are the same.
 pub put_unique : {l w m n : List ℕ} {at p q : ℕ} → PutText l at w m p → PutText l at w n q → (m ≡ n) × (p ≡ q)
 put_unique a b = (a.bytes ∙ sym b.bytes, a.position ∙ sym b.position)
+
+-- ---- the same of lines
+
+-- One text after another is both as one text.
+pub puts_then : {l m n : Line} {v w : List ℕ} → Puts l v m → Puts m w n → Puts l (v ++ w) n
+puts_then a b = record { text = put_then a.text b.text; same_buffer = b.same_buffer ∙ a.same_buffer }
+
+-- the same where the first text is two words with a space between them
+pub puts_pair_then : {l m n : Line} {w : List ℕ} (u v : List ℕ) → Puts l (u ++ (32 ∷ v)) m → Puts m w n → Puts l (u ++ (32 ∷ (v ++ w))) n
+puts_pair_then {l} {n = n} {w} u v a b =
+    subst (λ (t : List ℕ). Puts l t n) (append_assoc u (32 ∷ v) w) (puts_then a b)
+
+-- nothing, where a line is left as it is
+pub puts_none : (l : Line) → Puts l [] l
+puts_none l = record { text = put_none _ _; same_buffer = refl }
+
+-- the loop that puts a word byte by byte: one turn
+pub puts_more : {l m n : Line} (w : List ℕ) (i : ℕ) → i < length w → Puts l (take i w) m → Puts m (get_or w i 0 ∷ []) n
+    → Puts l (take (i + 1) w) n
+puts_more w i h a b = rw (add-one i, take-suc w i 0 h) (puts_then a b)

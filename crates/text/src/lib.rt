@@ -3,7 +3,7 @@
 
 ghost use Rattle.std.specs.Prelude.{[], ◌∷◌, ◌++◌, map, ◌≡◌};
 ghost use Rattle.rules.specs.Answers.{value_number, refusal_fault};
-ghost use Rattle.text.specs.PutText.{PutText};
+ghost use Rattle.text.specs.Puts.{Puts};
 ghost use Rattle.text.specs.Lines.{decimal, value_word, action_word, rest_of_line, entry_line, start_line};
 ghost use Rattle.text.specs.Lines.{names_record, record_named, refusal_line};
 
@@ -18,7 +18,7 @@ pub struct Line<'a> {
 
 impl Line<'_> {
     pub fn put(&mut self, byte: u8)
-        ensures { PutText self.old.bytes.now self.old.at (byte ∷ []) self.new.bytes.now self.new.at }
+        ensures { Puts self.old (byte ∷ []) self.new }
     {
         if self.at < self.bytes.len() {
             self.bytes[self.at] = byte;
@@ -27,7 +27,7 @@ impl Line<'_> {
     }
 
     pub fn put_word(&mut self, word: &[u8])
-        ensures { PutText self.old.bytes.now self.old.at word.now self.new.bytes.now self.new.at }
+        ensures { Puts self.old word.now self.new }
     {
         for &byte in word {
             self.put(byte);
@@ -35,7 +35,7 @@ impl Line<'_> {
     }
 
     pub fn put_number(&mut self, n: u32)
-        ensures { PutText self.old.bytes.now self.old.at (decimal n) self.new.bytes.now self.new.at }
+        ensures { Puts self.old (decimal n) self.new }
     {
         let mut digits = [0u8; 20];
         let k = io::decimal(u64::from(n), &mut digits);
@@ -43,7 +43,7 @@ impl Line<'_> {
     }
 
     pub fn put_value(&mut self, value: Value)
-        ensures { PutText self.old.bytes.now self.old.at (value_word (value_number value)) self.new.bytes.now self.new.at }
+        ensures { Puts self.old (value_word (value_number value)) self.new }
     {
         match value {
             Value::Losing => self.put_word(b"losing"),
@@ -54,7 +54,7 @@ impl Line<'_> {
 
     /// The action, or "-" where none is named.
     pub fn put_action(&mut self, action: u8)
-        ensures { PutText self.old.bytes.now self.old.at (action_word action) self.new.bytes.now self.new.at }
+        ensures { Puts self.old (action_word action) self.new }
     {
         if action == 255 {
             self.put(b'-');
@@ -65,7 +65,7 @@ impl Line<'_> {
 
     // A state and a goal state, a space between them.
     fn put_state_and_goal(&mut self, state: u32, goal: u32)
-        ensures { PutText self.old.bytes.now self.old.at (decimal state ++ (32 ∷ decimal goal)) self.new.bytes.now self.new.at }
+        ensures { Puts self.old (decimal state ++ (32 ∷ decimal goal)) self.new }
     {
         self.put_number(state);
         self.put(b' ');
@@ -74,9 +74,7 @@ impl Line<'_> {
 
     /// The line of a place.
     pub fn put_entry(&mut self, state: u32, goal: u32, value: Value, action: u8, number: u16)
-        ensures { PutText self.old.bytes.now self.old.at
-            (entry_line state goal (value_number value) action number)
-            self.new.bytes.now self.new.at }
+        ensures { Puts self.old (entry_line state goal (value_number value) action number) self.new }
     {
         self.put_state_and_goal(state, goal);
         self.put(b' ');
@@ -90,9 +88,7 @@ impl Line<'_> {
 
     /// The first line of a listing.
     pub fn put_start(&mut self, state: u32, goal: u32, value: Value)
-        ensures { PutText self.old.bytes.now self.old.at
-            (start_line state goal (value_number value))
-            self.new.bytes.now self.new.at }
+        ensures { Puts self.old (start_line state goal (value_number value)) self.new }
     {
         self.put_word(b"start ");
         self.put_state_and_goal(state, goal);
@@ -103,9 +99,7 @@ impl Line<'_> {
 
     // The rest of a refusal's line: the record that is named, if one is.
     fn put_record(&mut self, why: Refusal)
-        ensures { PutText self.old.bytes.now self.old.at
-            (rest_of_line (map decimal (record_named (refusal_fault why))))
-            self.new.bytes.now self.new.at }
+        ensures { Puts self.old (rest_of_line (map decimal (record_named (refusal_fault why)))) self.new }
     {
         if names_record(why) {
             self.put(b' ');
@@ -116,7 +110,7 @@ impl Line<'_> {
 
     /// The line of a refusal.
     pub fn put_refusal(&mut self, why: Refusal)
-        ensures { PutText self.old.bytes.now self.old.at (refusal_line (refusal_fault why)) self.new.bytes.now self.new.at }
+        ensures { Puts self.old (refusal_line (refusal_fault why)) self.new }
     {
         self.put_word(b"refused ");
         self.put_number(why.number());
