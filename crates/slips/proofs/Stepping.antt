@@ -7,7 +7,8 @@ use native.Mathlib.Nat.{mod-lt, div-lt_iff_lt-mul, one-le-pow, pow-suc, pow-le-p
 use native.Mathlib.Omega.{arith}
 use lib.ListN.{length, get_or}
 use Rattle.slips.specs.Clauses.{Clause, states, step, final, steps, finals}
-use Rattle.slips.specs.Writing.{clause_of, clause_at, clauses_from}
+use Rattle.slips.specs.Writing.{clause_of, clause_in, clause_at, clauses_from}
+use Rattle.slips.specs.declared.clause.Kind.{Kind}
 use Rattle.slips.specs.Filling.{StateLeft}
 use Rattle.slips.proofs.Accept.{step_below, steps_below}
 
@@ -29,6 +30,14 @@ from_suc : (s : List ℕ) (at m : ℕ) → (m ≡ 0 → ⊥) → clauses_from s 
 unfolding clauses_from
 from_suc s at zero k = absurd (k refl)
 from_suc s at (suc m) k = let e : suc m - 1 ≡ m = omega arith in rw e
+
+-- what is promised of a kind by its name is promised of its number
+module _ (k : Kind) (s : List ℕ) (at q : ℕ) (h : (a b : ℕ) → clause_in k a b ≡ clause_of (get_or s at 0) a b) where
+  pub stepped_by : (l f : ℕ) → f ≡ step (clause_in k (get_or s (at + 1) 0) (get_or s (at + 2) 0)) q l → f ≡ step (clause_at s at) q l
+  stepped_by l f e = e ∙ ap (λ (c : Clause). step c q l) (h (get_or s (at + 1) 0) (get_or s (at + 2) 0))
+
+  pub final_by : (y : Bool) → ((a b : ℕ) → y ≡ final (clause_in k a b) q) → (a b : ℕ) → y ≡ final (clause_of (get_or s at 0) a b) q
+  final_by y e a b = e a b ∙ ap (λ (c : Clause). final c q) (h a b)
 
 module _ (s : List ℕ) (at left : ℕ) (n : left ≡ 0 → ⊥) where
   abbrev others : List Clause

@@ -15,7 +15,7 @@ use Rattle.sets.proofs.Bits.{below_or}
 use Rattle.slips.specs.Clauses.{Clause, states}
 use Rattle.slips.specs.Writing.{clauses, counted, sound, body_size, Body, Writing, refused, written}
 use Rattle.slips.specs.Writing.{written_refusal, written_length}
-use Rattle.slips.specs.declared.goal.Written.{Written}
+use Rattle.std.specs.Prelude.{Result, Ok, Err}
 use Rattle.rules.specs.Answers.{refusal_fault}
 use Rattle.rules.specs.declared.answer.Refusal.{Refusal}
 use Rattle.rules.proofs.Figures.{by_refusal, by_refusal_back, record_none}
@@ -76,18 +76,18 @@ no_record r g = let n = go (refusal_fault r).number g in record_none r n.0 n.1
     go n (inr (inr (inr e))) = (λ f. omega arith, λ f. omega arith)
 
 -- the figures of an answer tell it
-written_of : ℕ → ℕ → Written
-written_of r n = by_refusal r 0 (Written.Bytes n) Written.Refused
+written_of : ℕ → ℕ → Result ℕ Refusal
+written_of r n = by_refusal r 0 (Ok n) Err
 
-written_back : (r : Written) → Given (written_refusal r) → written_of (written_refusal r) (written_length r) ≡ r
+written_back : (r : Result ℕ Refusal) → Given (written_refusal r) → written_of (written_refusal r) (written_length r) ≡ r
 unfolding written_of
-written_back (Written.Bytes n) g = refl
-written_back (Written.Refused r) g =
-    ap (λ (k : ℕ). by_refusal (refusal_fault r).number k (Written.Bytes 0) Written.Refused) (sym (no_record r g))
-    ∙ by_refusal_back r (Written.Bytes 0) Written.Refused
+written_back (Ok n) g = refl
+written_back (Err r) g =
+    ap (λ (k : ℕ). by_refusal (refusal_fault r).number k (Ok 0) Err) (sym (no_record r g))
+    ∙ by_refusal_back r (Ok 0) Err
 
 -- two results that the promise of `write_goal` allows are the same
-pub written_unique : {s before after after' : List ℕ} {p : ℕ} (r r' : Written)
+pub written_unique : {s before after after' : List ℕ} {p : ℕ} (r r' : Result ℕ Refusal)
     → Writing s p before (written_refusal r) (written_length r) after
     → Writing s p before (written_refusal r') (written_length r') after' → (r ≡ r') × (after ≡ after')
 written_unique r r' x y =

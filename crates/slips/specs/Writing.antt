@@ -1,14 +1,34 @@
 -- Slips in bytes, three a clause, and the Goal body that is written from them: what the call answers and leaves, on every input.
-use Rattle.std.specs.Prelude.{ℕ, zero, suc, ◌+◌, ◌*◌, ◌/◌, ◌%◌, ◌^◌, ◌<◌, Bool, cond, not, ◌&&◌, ◌||◌, List, [], ◌∷◌, ◌++◌, ◌≡◌, leb, ltb, eqb, length, get_or, drop}
+use Rattle.std.specs.Prelude.{ℕ, zero, suc, ◌+◌, ◌*◌, ◌/◌, ◌%◌, ◌^◌, ◌<◌, Bool, cond, not, ◌&&◌, ◌||◌, List, [], ◌∷◌, ◌++◌, ◌≡◌, leb, ltb, eqb, length, get_or, drop, Result, Ok, Err}
 use Rattle.sets.specs.Sets.{one}
 use Rattle.rules.specs.Answers.{refusal_fault}
 use Rattle.game.specs.Below.{every_below}
 use Rattle.slips.specs.Clauses.{Clause, existence, absence, response, precedence, states, steps, finals}
-use Rattle.slips.specs.declared.goal.Written.{Written}
+use Rattle.slips.specs.declared.clause.Kind.{Kind}
+use Rattle.slips.specs.declared.clause.NoKind.{NoKind}
+use Rattle.rules.specs.declared.answer.Refusal.{Refusal}
 
 -- A clause is a kind, 0 to 3, and the propositions a and b.
 abbrev pub clause_of : ℕ → ℕ → ℕ → Clause
 clause_of k a b = cond (eqb k 0) (existence a) (cond (eqb k 1) (absence a) (cond (eqb k 2) (response a b) (precedence a b)))
+
+-- the same of a kind by its name, and its number
+abbrev pub clause_in : Kind → ℕ → ℕ → Clause
+clause_in Kind.Existence a b = existence a
+clause_in Kind.Absence a b = absence a
+clause_in Kind.Response a b = response a b
+clause_in Kind.Precedence a b = precedence a b
+
+abbrev pub kind_number : Kind → ℕ
+kind_number Kind.Existence = 0
+kind_number Kind.Absence = 1
+kind_number Kind.Response = 2
+kind_number Kind.Precedence = 3
+
+-- the kind that has a number, or the number where none has it
+abbrev pub KindOf : ℕ → Result Kind NoKind → Type 0
+KindOf n (Ok k) = n ≡ kind_number k
+KindOf n (Err e) = (e.0 ≡ n) × (3 < n)
 
 abbrev pub clause_at : List ℕ → ℕ → Clause
 clause_at s i = clause_of (get_or s i 0) (get_or s (i + 1) 0) (get_or s (i + 2) 0)
@@ -55,13 +75,13 @@ pub record Body (cs : List Clause) (p : ℕ) (g : List ℕ) : Type 0 where
   pub marks : (q : ℕ) → q < states cs → get_or g (states cs * 2 ^ p + q) 0 ≡ one (finals cs q)
 
 -- The figures of an answer: success is 0 with the length of the body, and a refusal returns its number with the length 0.
-abbrev pub written_refusal : Written → ℕ
-written_refusal (Written.Bytes n) = 0
-written_refusal (Written.Refused r) = (refusal_fault r).number
+abbrev pub written_refusal : Result ℕ Refusal → ℕ
+written_refusal (Ok n) = 0
+written_refusal (Err r) = (refusal_fault r).number
 
-abbrev pub written_length : Written → ℕ
-written_length (Written.Bytes n) = n
-written_length (Written.Refused r) = 0
+abbrev pub written_length : Result ℕ Refusal → ℕ
+written_length (Ok n) = n
+written_length (Err r) = 0
 
 -- `Writing s p before r n after`: for the slips s and P propositions, and an output that holds `before`, the call answers r and n,
 -- the body's length, and leaves `after`. A refusal keeps every byte; bytes beyond the body stay.

@@ -4,21 +4,14 @@ ghost use Rattle.slips.specs.Clauses.{steps, finals};
 ghost use Rattle.slips.specs.Writing.{clauses_from};
 ghost use Rattle.slips.specs.Filling.{StateLeft, ByteLeft, BodyLeft, body_byte, Filled};
 
+use crate::clause::{Kind, final_one, next_one};
+
 // 3 to the n: how many goal states n clauses have.
 pub fn power(n: usize) -> usize
     requires { n ≤ 3 }
     ensures { result ≡ 3 ^ n }
 {
-    if n == 0 {
-        return 1;
-    }
-    if n == 1 {
-        return 3;
-    }
-    if n == 2 {
-        return 9;
-    }
-    27
+    3usize.pow(n as u32)
 }
 
 // 2 to the p: how many labels p propositions have.
@@ -38,7 +31,7 @@ fn next_state(s: &[u8], at: usize, left: usize, q: usize, l: u8) -> usize
         return 0;
     }
     let w = power(left - 1);
-    let first = crate::clause::next_one(s[at], s[at + 1], s[at + 2], q / w, l);
+    let first = next_one(Kind::of(s[at]), s[at + 1], s[at + 2], q / w, l);
     let others = next_state(s, at + 3, left - 1, q % w, l);
     first * w + others
 }
@@ -52,10 +45,7 @@ fn final_state(s: &[u8], at: usize, left: usize, q: usize) -> bool
         return true;
     }
     let w = power(left - 1);
-    if crate::clause::final_one(s[at], q / w) {
-        return final_state(s, at + 3, left - 1, q % w);
-    }
-    false
+    final_one(Kind::of(s[at]), q / w) && final_state(s, at + 3, left - 1, q % w)
 }
 
 // The byte y of the Goal body.
@@ -68,10 +58,7 @@ fn body_byte(s: &[u8], n: usize, p: usize, y: usize) -> u8
     if y < rows {
         return next_state(s, 0, n, y / w, (y % w) as u8) as u8;
     }
-    if final_state(s, 0, n, y - rows) {
-        return 1;
-    }
-    0
+    u8::from(final_state(s, 0, n, y - rows))
 }
 
 // Writes the Goal body of n clauses, so many bytes.
@@ -79,9 +66,7 @@ pub fn write_body(out: &mut [u8], s: &[u8], n: usize, p: usize, size: usize)
     requires { BodyLeft s.now n p size (length out.old) }
     ensures { Filled size (body_byte (clauses_from s.now 0 n) p) out.old out.new }
 {
-    let mut y: usize = 0;
-    while y < size {
+    for y in 0..size {
         out[y] = body_byte(s, n, p, y);
-        y += 1;
     }
 }

@@ -1,5 +1,4 @@
 -- `body_byte` meets its contract.
-use mathlib.Core.Bool.{true, false}
 use mathlib.Core.Path.{sym, ◌∙◌}
 use native.Mathlib.Omega.{arith}
 use Rattle.slips.proofs.Bodies.{ByteSized, some_labels, rows_few, label_few, row_left, mark_left, row_few, byte_row, byte_mark}
@@ -69,18 +68,9 @@ final_state-requires c =
     record { left = c.requires; labels = c.width-w.ensures; goal_states = c.power.ensures } in
     mark_left z c.if-y-rows.false
 
-pub returns-then-final_state : goal.returns-then-final_state
-returns-then-final_state c =
-    let a = c.args in
-    let z : ByteSized a.s.now a.n a.p a.y c.width-w.result c.power.result =
-    record { left = c.requires; labels = c.width-w.ensures; goal_states = c.power.ensures } in
-    byte_mark z true c.if-y-rows.false (sym
-    c.final_state.ensures ∙ c.if-final_state.true)
-
 pub returns : goal.returns
 returns c =
     let a = c.args in
     let z : ByteSized a.s.now a.n a.p a.y c.width-w.result c.power.result =
     record { left = c.requires; labels = c.width-w.ensures; goal_states = c.power.ensures } in
-    byte_mark z false c.if-y-rows.false (sym
-    c.final_state.ensures ∙ c.if-final_state.false)
+    c.from.ensures ∙ byte_mark z c.final_state.result c.if-y-rows.false (sym c.final_state.ensures)

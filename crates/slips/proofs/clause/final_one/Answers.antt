@@ -1,20 +1,16 @@
 -- `final_one` meets its contract.
-use borrow.Author.Tests.{ne_eqb}
+use mathlib.Core.Logic.{⊎_elim}
 use Rattle.slips.specs.Clauses.{final}
 use Rattle.slips.proofs.clause.final_one.Goals as goal
 
-pub returns-then-kind-eq0 : goal.returns-then-kind-eq0
+pub returns-in-Existence : goal.returns-in-Existence
 unfolding final
-returns-then-kind-eq0 c = λ a b. rw c.if-kind-eq0.true
+returns-in-Existence c a b = rw c.in-Existence.is
 
-pub returns-then-kind-eq1 : goal.returns-then-kind-eq1
+pub returns-in-Absence : goal.returns-in-Absence
 unfolding final
-returns-then-kind-eq1 c = λ a b. rw c.if-kind-eq1.true
+returns-in-Absence c a b = ⊎_elim (λ e. rw e) (λ e. rw e) c.in-Absence.is
 
-pub returns-then-kind-eq2 : goal.returns-then-kind-eq2
+pub returns-in-Precedence : goal.returns-in-Precedence
 unfolding final
-returns-then-kind-eq2 c = λ a b. rw c.if-kind-eq2.true
-
-pub returns : goal.returns
-unfolding final
-returns c = λ a b. rw (ne_eqb _ _ c.if-kind-eq0.false, ne_eqb _ _ c.if-kind-eq1.false, ne_eqb _ _ c.if-kind-eq2.false)
+returns-in-Precedence c a b = rw c.in-Precedence.is

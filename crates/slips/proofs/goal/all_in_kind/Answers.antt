@@ -1,13 +1,9 @@
 -- `all_in_kind` meets its contract. The clauses passed are so.
-use mathlib.Core.Path.{◌≡◌, refl, sym, ◌∙◌}
+use mathlib.Core.Path.{◌≡◌, sym, ◌∙◌}
 use native.Mathlib.Omega.{arith}
 use Rattle.game.proofs.Tests.{every_more, every_stops}
 use Rattle.slips.specs.Writing.{in_kind_at}
 use Rattle.slips.proofs.goal.all_in_kind.Goals as goal
-
-pub loop-i-init : goal.loop-i-init
-loop-i-init c =
-    (omega arith, refl)
 
 pub returns-then-not-is_in_kind : goal.returns-then-not-is_in_kind
 returns-then-not-is_in_kind c =
@@ -17,14 +13,10 @@ returns-then-not-is_in_kind c =
 
 pub loop-i-preserved : goal.loop-i-preserved
 loop-i-preserved c =
-    let a = c.args in (
-      omega arith,
-      every_more (in_kind_at a.s.now a.p) c.loop-i.i c.loop-i.invariant.1
-          (sym c.is_in_kind.ensures ∙ c.if-not-is_in_kind.false),
-    )
+    let a = c.args in
+    every_more (in_kind_at a.s.now a.p) c.loop-i.i c.loop-i.invariant (sym c.is_in_kind.ensures ∙ c.if-not-is_in_kind.false)
 
 pub returns : goal.returns
 returns c =
-    let a = c.args in
-    let e : c.loop-i.i ≡ a.n = omega arith in
-    sym (rw e at c.loop-i.invariant.1)
+    let e : c.loop-i.i ≡ c.args.n = omega arith in
+    sym (rw e at c.loop-i.invariant)
