@@ -1,5 +1,5 @@
 -- Names: those that a text lists after a key, a table of where they stand, and the first that is spelt like a word.
-use Rattle.std.specs.Prelude.{ℕ, zero, suc, ◌+◌, ◌*◌, ◌≤◌, ◌<◌, cond, ◌&&◌, List, [], ◌∷◌, ◌++◌, ◌≡◌, ltb, length, get_or, Option, Some, None}
+use Rattle.std.specs.Prelude.{ℕ, zero, suc, ◌+◌, ◌*◌, ◌≤◌, ◌<◌, cond, ◌&&◌, List, [], ◌∷◌, ◌++◌, ◌≡◌, ltb, length, get_or, Option, unwrap_or}
 use Rattle.lines.specs.Words.{part, same_word, lines}
 
 -- the mark after a key, and the words that a line lists after a key and this mark
@@ -51,8 +51,7 @@ index_of (x ∷ xs) w = cond (same_word x w) 0 (suc (index_of xs w))
 
 -- the number that was found, or how many there are where none was
 abbrev pub found : Option ℕ → ℕ → ℕ
-found None n = n
-found (Some k) n = k
+found o n = unwrap_or o n
 
 -- A table after names were put to it: it holds these names, and its length is as it was.
 pub record Holds (t before after : List ℕ) (n : ℕ) (held : List (List ℕ)) : Type 0 where

@@ -11,25 +11,25 @@ use lines::names::find;
 use lines::word::{is_same, next_line, next_word};
 
 // Whether a word is one of the names of a table.
+#[tactic(auto, using(crate::proofs::Judging::known_found))]
 fn is_known(text: &[u8], names: &[usize], n: usize, word: &[u8]) -> bool
     requires { Lie text.now names.now n }
     ensures { result ≡ known (table text.now names.now n) word.now }
 {
-    find(text, names, n, word) < n
+    find(text, names, n, word).is_some()
 }
 
 // Whether a word is one of the names of a table, or the other word that may stand for a name.
+#[tactic(auto, unfolding(crate::specs::Whole::fits))]
 fn is_fit(text: &[u8], names: &[usize], n: usize, also: &[u8], word: &[u8]) -> bool
     requires { Lie text.now names.now n }
     ensures { result ≡ fits (table text.now names.now n) also.now word.now }
 {
-    if is_same(word, also) {
-        return true;
-    }
-    is_known(text, names, n, word)
+    is_same(word, also) || is_known(text, names, n, word)
 }
 
 // Whether names follow up to the end of the line, at least one, with a mark between each and the next.
+#[tactic(auto, using(lines::proofs::Wording::after_none, lines::proofs::Wording::after_some, lines::proofs::Wording::words_past), unfolding(crate::specs::Whole::listing))]
 fn is_listing(text: &[u8], at: usize, names: &[usize], n: usize, also: &[u8], mark: &[u8]) -> bool
     requires lie { Lie text.now names.now n }
     requires at_in_bounds { at ≤ length text.now }
@@ -62,6 +62,7 @@ fn is_listing(text: &[u8], at: usize, names: &[usize], n: usize, also: &[u8], ma
 }
 
 // Whether no word follows on the line.
+#[tactic(auto, using(lines::proofs::Wording::after_none, lines::proofs::Wording::after_some), unfolding(crate::specs::Whole::over))]
 fn is_over(text: &[u8], at: usize) -> bool
     requires { at ≤ length text.now }
     ensures { result ≡ over (words (drop at text.now)) }
@@ -71,6 +72,7 @@ fn is_over(text: &[u8], at: usize) -> bool
 }
 
 // Whether one word follows, which is one of the facts.
+#[tactic(auto, using(lines::proofs::Wording::after_none, lines::proofs::Wording::after_some), unfolding(crate::specs::Whole::sole))]
 fn is_sole(text: &[u8], at: usize, facts: &[usize], f: usize) -> bool
     requires lie { Lie text.now facts.now f }
     requires at_in_bounds { at ≤ length text.now }
@@ -82,13 +84,11 @@ fn is_sole(text: &[u8], at: usize, facts: &[usize], f: usize) -> bool
     if start == end {
         return false;
     }
-    if !is_known(text, facts, f, &text[start..end]) {
-        return false;
-    }
-    is_over(text, end)
+    is_known(text, facts, f, &text[start..end]) && is_over(text, end)
 }
 
 // Whether the word then follows, and after it one of the facts alone.
+#[tactic(auto, using(lines::proofs::Wording::after_none, lines::proofs::Wording::after_some), unfolding(crate::specs::Whole::then_sole))]
 fn is_then_sole(text: &[u8], at: usize, facts: &[usize], f: usize) -> bool
     requires lie { Lie text.now facts.now f }
     requires at_in_bounds { at ≤ length text.now }
@@ -100,74 +100,28 @@ fn is_then_sole(text: &[u8], at: usize, facts: &[usize], f: usize) -> bool
     if start == end {
         return false;
     }
-    if !is_same(&text[start..end], b"then") {
-        return false;
-    }
-    is_sole(text, end, facts, f)
-}
-
-// Whether a word is one of the facts, and no word follows.
-fn is_one(text: &[u8], at: usize, one: &[u8], facts: &[usize], f: usize) -> bool
-    requires lie { Lie text.now facts.now f }
-    requires at_in_bounds { at ≤ length text.now }
-    ensures { result ≡ (known (table text.now facts.now f) one.now
-        && over (words (drop at text.now))) }
-{
-    if !is_known(text, facts, f, one) {
-        return false;
-    }
-    is_over(text, at)
-}
-
-// Whether a word is one of the facts, and one fact alone follows.
-fn is_before(text: &[u8], at: usize, one: &[u8], facts: &[usize], f: usize) -> bool
-    requires lie { Lie text.now facts.now f }
-    requires at_in_bounds { at ≤ length text.now }
-    ensures { result ≡ (known (table text.now facts.now f) one.now
-        && sole (table text.now facts.now f) (words (drop at text.now))) }
-{
-    if !is_known(text, facts, f, one) {
-        return false;
-    }
-    is_sole(text, at, facts, f)
-}
-
-// Whether a word is one of the facts, and the word then and one fact follow.
-fn is_whenever(text: &[u8], at: usize, one: &[u8], facts: &[usize], f: usize) -> bool
-    requires lie { Lie text.now facts.now f }
-    requires at_in_bounds { at ≤ length text.now }
-    ensures { result ≡ (known (table text.now facts.now f) one.now
-        && then_sole (table text.now facts.now f) (words (drop at text.now))) }
-{
-    if !is_known(text, facts, f, one) {
-        return false;
-    }
-    is_then_sole(text, at, facts, f)
+    is_same(&text[start..end], b"then") && is_sole(text, end, facts, f)
 }
 
 // Whether a line is a whole clause, by its first two words and from after them on.
+#[tactic(auto, unfolding(crate::specs::Whole::whole_clause))]
 fn is_clause(text: &[u8], at: usize, one: &[u8], two: &[u8], facts: &[usize], f: usize) -> bool
     requires lie { Lie text.now facts.now f }
     requires at_in_bounds { at ≤ length text.now }
     ensures { result ≡ whole_clause (table text.now facts.now f) one.now two.now
         (words (drop at text.now)) }
 {
-    if is_same(one, b"eventually") {
-        return is_one(text, at, two, facts, f);
-    }
-    if is_same(one, b"never") {
-        return is_one(text, at, two, facts, f);
+    if is_same(one, b"eventually") || is_same(one, b"never") {
+        return is_known(text, facts, f, two) && is_over(text, at);
     }
     if is_same(one, b"whenever") {
-        return is_whenever(text, at, two, facts, f);
+        return is_known(text, facts, f, two) && is_then_sole(text, at, facts, f);
     }
-    if is_same(two, b"before") {
-        return is_before(text, at, one, facts, f);
-    }
-    false
+    is_same(two, b"before") && is_known(text, facts, f, one) && is_sole(text, at, facts, f)
 }
 
 // Whether a line of facts is whole, by its first word and from after the word is on.
+#[tactic(auto, unfolding(crate::specs::Whole::whole_facts))]
 fn is_fact_line(
     text: &[u8],
     at: usize,
@@ -182,13 +136,11 @@ fn is_fact_line(
     ensures { result ≡ whole_facts (table text.now states.now s) (table text.now facts.now f)
         one.now (words (drop at text.now)) }
 {
-    if !is_known(text, states, s, one) {
-        return false;
-    }
-    is_listing(text, at, facts, f, b"busy", b",")
+    is_known(text, states, s, one) && is_listing(text, at, facts, f, b"busy", b",")
 }
 
 // Whether a line of moves is whole, by its first two words and from after the arrow on.
+#[tactic(auto, unfolding(crate::specs::Whole::whole_move))]
 fn is_move_line(
     text: &[u8],
     at: usize,
@@ -204,16 +156,13 @@ fn is_move_line(
     ensures { result ≡ whole_move (table text.now states.now s) (table text.now actions.now a)
         one.now two.now (words (drop at text.now)) }
 {
-    if !is_known(text, states, s, one) {
-        return false;
-    }
-    if !is_known(text, actions, a, two) {
-        return false;
-    }
-    is_listing(text, at, states, s, b"", b"|")
+    is_known(text, states, s, one)
+        && is_known(text, actions, a, two)
+        && is_listing(text, at, states, s, b"", b"|")
 }
 
 // Whether a line is a whole move or clause, by its first two words and from after them on.
+#[tactic(auto, using(lines::proofs::Wording::after_none, lines::proofs::Wording::after_some), unfolding(crate::specs::Whole::whole_rest))]
 fn is_rest(
     text: &[u8],
     at: usize,
@@ -244,6 +193,7 @@ fn is_rest(
 }
 
 // Whether no word of a line is skipped, from the line's beginning on.
+#[tactic(auto, using(lines::proofs::Wording::after_none, lines::proofs::Wording::after_some), unfolding(crate::specs::Whole::whole_line))]
 fn is_whole_line(
     text: &[u8],
     at: usize,
