@@ -1,29 +1,34 @@
--- The laws of rows: where one leads word by word, the row of a line, and the first row that fits.
+-- The laws of rows: a name that was found, where a row leads word by word, and the first row that fits.
 use Prim.Native.Nat.{ℕ, zero, suc, ◌+◌, ◌≤◌, ◌<◌}
-use mathlib.Core.Bool.{Bool, true, false, cond, not, ◌&&◌, ◌||◌, true≢false, false≢true}
-use mathlib.Core.List.{List, [], ◌∷◌}
+use mathlib.Core.Bool.{Bool, true, false, cond, ◌||◌, true≢false, false≢true}
+use mathlib.Core.List.{List}
 use mathlib.Core.Path.{◌≡◌, refl, sym, ap, ◌∙◌}
 use native.Mathlib.Omega.{arith}
 use borrow.Author.Tests.{lt-ltb, le-ltb, ne_eqb, le-leb, ltb-true}
 use lib.Dec.{eqb, ltb}
 use lib.ListN.{length, drop}
-use Rattle.sets.specs.Sets.{bit}
 use Rattle.lines.specs.Words.{part, same_word, words, lines, lines_from, NextWord, NextLine}
-use Rattle.lines.specs.Names.{colon, index_of, name, table_from, table}
+use Rattle.std.specs.Prelude.{Option, Some, None, IfSome, is_some, unwrap_or}
+use Rattle.std.specs.Option.{option_eq}
+use Rattle.lines.specs.Names.{found, index_of, name, table_from, table}
 use Rattle.lines.specs.Says.{arrow}
 use Rattle.lines.proofs.Wording.{after_none, after_some, words_past, no_lines_from, lines_first, same_word_true}
 use Rattle.rows.specs.Rows.{comma, not_word, suits, to_goal, aim, row_aim, first_aim, next_said}
 use Rattle.rows.specs.Cells.{lets}
 
--- a name that is looked up is one of the list, or how many there are
-pub index_le : (names : List (List ℕ)) (w : List ℕ) → index_of names w ≤ length names
-unfolding index_of
-index_le [] w = omega arith
-index_le (x ∷ xs) w = go (same_word x w) (index_le xs w)
-  where
-    go : (b : Bool) → index_of xs w ≤ length xs → cond b 0 (suc (index_of xs w)) ≤ suc (length xs)
-    go true h = omega arith
-    go false h = omega arith
+-- what was found, and what was not
+pub found_some : (o : Option ℕ) (n : ℕ) → is_some o ≡ true → IfSome o (λ k. k < n) → found o n < n
+found_some None n e h = absurd (false≢true e)
+found_some (Some k) n e h = h
+
+pub found_none : (o : Option ℕ) (n : ℕ) → is_some o ≡ false → n ≤ found o n
+found_none None n e = omega arith
+found_none (Some k) n e = absurd (true≢false e)
+
+-- whether one number was found
+pub found_it : (o : Option ℕ) (n q : ℕ) → IfSome o (λ k. k < n) → q < n → option_eq eqb o (Some q) ≡ eqb (found o n) q
+found_it None n q h l = sym (ne_eqb n q (omega arith))
+found_it (Some k) n q h l = refl
 
 -- a name of a table that is not spelt like the word is not the one that is looked up
 spelt : (t sp w : List ℕ) (k n j : ℕ) → j < n → same_word (name t sp (k + j)) w ≡ false → index_of (table_from t sp k n) w ≡ j → ⊥
@@ -68,15 +73,6 @@ stops f out false true s e = absurd (true≢false e)
 stops f out false false true e = absurd (true≢false e)
 stops f out false false false e = refl
 
--- a word that is neither a comma nor "not" lets the row fit where its fact suits
-module _ (facts : List (List ℕ)) (l : ℕ) (w : List ℕ) (c : same_word w comma ≡ false) (n : same_word w not_word ≡ false)
-    (k : ℕ) (z : k ≡ index_of facts w) (h : Bool) (e : h ≡ bit l k) where
-  pub lets_true : h ≡ lets facts l false w
-  lets_true = rw (c, n, ← z) e
-
-  pub lets_not : not h ≡ lets facts l true w
-  lets_not = rw (c, n, ← z) (ap not e)
-
 -- ---- the words of a row
 
 module _ (facts goals : List (List ℕ)) (l : ℕ) (ban : Bool) {t : List ℕ} {at s e : ℕ} (n : NextWord t at s e) where
@@ -118,44 +114,6 @@ pub aim_past : (facts goals : List (List ℕ)) (l : ℕ) (ban : Bool) (t : List 
 unfolding aim
 aim_past facts goals l ban t i h = rw (words_past t i h)
 
-module _ (goals : List (List ℕ)) {t : List ℕ} {at s e : ℕ} (n : NextWord t at s e) where
-  pub goal_none : s ≡ e → to_goal goals (words (drop at t)) ≡ length goals
-  unfolding to_goal
-  goal_none q = rw (after_none n q)
-
-  pub goal_some : (s ≡ e → ⊥) → to_goal goals (words (drop at t)) ≡ index_of goals (part t s e)
-  unfolding to_goal
-  goal_some q = rw (after_some n q)
-
--- ---- the row of a line
-
-module _ (facts goals : List (List ℕ)) (p l : ℕ) {t : List ℕ} {at s e : ℕ} (n : NextWord t at s e) where
-  pub row_none : s ≡ e → row_aim facts goals p l (words (drop at t)) ≡ length goals
-  unfolding row_aim
-  row_none q = rw (after_none n q)
-
-  module _ (q : s ≡ e → ⊥) {f g : ℕ} (m : NextWord t e f g) where
-    pub row_alone : f ≡ g → row_aim facts goals p l (words (drop at t)) ≡ length goals
-    unfolding row_aim
-    row_alone r = rw (after_some n q, after_none m r)
-
-    module _ (r : f ≡ g → ⊥) where
-      both : row_aim facts goals p l (words (drop at t))
-          ≡ cond (same_word (part t f g) colon && eqb (index_of goals (part t s e)) p) (aim facts goals l false (words (drop g t))) (length goals)
-      unfolding row_aim
-      both = rw (after_some n q, after_some m r)
-
-      pub row_unmarked : same_word (part t f g) colon ≡ false → row_aim facts goals p l (words (drop at t)) ≡ length goals
-      row_unmarked z = both ∙ rw z
-
-      module _ (z : same_word (part t f g) colon ≡ true) where
-        pub row_other : eqb (index_of goals (part t s e)) p ≡ false → row_aim facts goals p l (words (drop at t)) ≡ length goals
-        row_other d = both ∙ rw (z, d)
-
-        pub row_here : eqb (index_of goals (part t s e)) p ≡ true
-            → row_aim facts goals p l (words (drop at t)) ≡ aim facts goals l false (words (drop g t))
-        row_here d = both ∙ rw (z, d)
-
 -- ---- the first row that fits
 
 module _ (facts goals : List (List ℕ)) (q l : ℕ) where
@@ -178,14 +136,11 @@ module _ (facts goals : List (List ℕ)) (q l : ℕ) where
 
 -- ---- the next goal state
 
-module _ (facts goals : List (List ℕ)) (ls : List (List (List ℕ))) (q l to : ℕ) (z : to ≡ first_aim facts goals q l ls) where
-  pub next_led : to < length goals → to ≡ next_said facts goals ls q l
-  unfolding next_said
-  next_led h = rw (← z, lt-ltb to (length goals) h)
-
-  pub next_stays : length goals ≤ to → q ≡ next_said facts goals ls q l
-  unfolding next_said
-  next_stays h = rw (← z, le-ltb to (length goals) h)
+pub next_by : (facts goals : List (List ℕ)) (ls : List (List (List ℕ))) (q l : ℕ) (o : Option ℕ) → found o (length goals) ≡ first_aim facts goals q l ls
+    → IfSome o (λ k. k < length goals) → unwrap_or o q ≡ next_said facts goals ls q l
+unfolding next_said
+next_by facts goals ls q l None e h = rw (← e, le-ltb (length goals) (length goals) (omega arith))
+next_by facts goals ls q l (Some k) e h = rw (← e, lt-ltb k (length goals) h)
 
 -- the next goal state is one of the goal states
 pub next_below : (facts goals : List (List ℕ)) (ls : List (List (List ℕ))) (q l : ℕ) → q < length goals

@@ -1,8 +1,9 @@
 -- The bytes of a table's body: which goal state and label each belongs to, that the numbers stay small, and that they are the body.
 use Prim.Native.Nat.{ℕ, ◌+◌, ◌-◌, ◌*◌, ◌/◌, ◌%◌, ◌^◌, ◌≤◌, ◌<◌}
-use mathlib.Core.Bool.{Bool}
+use mathlib.Core.Bool.{Bool, true, false}
+use mir.Val.{bool_byte}
 use mathlib.Core.List.{List}
-use mathlib.Core.Path.{◌≡◌}
+use mathlib.Core.Path.{◌≡◌, refl}
 use native.Mathlib.Nat.{mod-lt, div-lt_iff_lt-mul, mul-le-mul}
 use native.Mathlib.Omega.{arith}
 use borrow.Author.Tests.{lt-ltb, le-ltb}
@@ -17,6 +18,11 @@ use Rattle.slips.proofs.Tables.{rest_kept, filled_long, row_filled, mark_filled}
 use Rattle.rows.specs.Rows.{next_said, final_said, table_size}
 use Rattle.rows.specs.Cells.{table_byte, TableWritten}
 use Rattle.rows.proofs.Aiming.{next_below}
+
+-- a truth as a byte
+pub one_byte : (z : Bool) → bool_byte z ≡ one z
+one_byte true = refl
+one_byte false = refl
 
 -- v labels of at most 6 facts, and at most 32 goal states
 pub record Sized (f g v : ℕ) : Type 0 where

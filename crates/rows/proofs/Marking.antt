@@ -1,7 +1,7 @@
 -- The laws of final goal states: the words of a line that name one, and the lines that do.
 use Prim.Native.Nat.{ℕ, ◌+◌, ◌≤◌, ◌<◌}
 use mathlib.Core.Bool.{true, false}
-use mathlib.Core.List.{List, []}
+use mathlib.Core.List.{List}
 use mathlib.Core.Logic.{⊎_elim}
 use mathlib.Core.Path.{◌≡◌, sym, ap, ◌∙◌}
 use native.Mathlib.Omega.{arith}
@@ -27,11 +27,6 @@ module _ (goals : List (List ℕ)) {t : List ℕ} {i s e : ℕ} (n : NextWord t 
       ⊎_elim
       (λ (h : x < length goals). one_named goals 0 n x d z h q ∙ rw (ne_eqb q (0 + x) (λ r. y (omega arith))))
       (λ (h : length goals ≤ x). other_named goals 0 n x d z h q) (below_or x (length goals))
-
--- nothing is named where no words follow
-pub named_none : (goals : List (List ℕ)) (q : ℕ) (ws : List (List ℕ)) → ws ≡ [] → names_some goals 0 q ws ≡ false
-unfolding some_of
-named_none goals q ws z = rw z
 
 -- ---- lines
 

@@ -21,7 +21,7 @@ fn names_goal(text: &[u8], at: usize, goals: &[usize], g: usize, q: usize) -> bo
         if start == end {
             return false;
         }
-        if find(text, goals, g, &text[start..end]) == q {
+        if find(text, goals, g, &text[start..end]) == Some(q) {
             return true;
         }
         i = end;
@@ -30,6 +30,7 @@ fn names_goal(text: &[u8], at: usize, goals: &[usize], g: usize, q: usize) -> bo
 }
 
 // Whether a line calls goal state q final.
+#[tactic(auto, using(lines::proofs::Wording::after_none, lines::proofs::Wording::after_some), unfolding(lines::specs::Names::after_key, lines::specs::Says::some_of))]
 fn final_line(text: &[u8], at: usize, goals: &[usize], g: usize, q: usize) -> bool
     requires { (at ≤ length text.now) × (Lie text.now goals.now g) × (q < g) }
     ensures { result ≡ final_line (table text.now goals.now g) q (words (drop at text.now)) }
@@ -46,13 +47,9 @@ fn final_line(text: &[u8], at: usize, goals: &[usize], g: usize, q: usize) -> bo
     if from == to {
         return false;
     }
-    if !is_same(&text[start..end], b"final") {
-        return false;
-    }
-    if !is_same(&text[from..to], b":") {
-        return false;
-    }
-    names_goal(text, to, goals, g, q)
+    is_same(&text[start..end], b"final")
+        && is_same(&text[from..to], b":")
+        && names_goal(text, to, goals, g, q)
 }
 
 // Whether some line of the text calls goal state q final.

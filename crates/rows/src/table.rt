@@ -25,10 +25,7 @@ fn table_byte(text: &[u8], facts: &[usize], f: usize, goals: &[usize], g: usize,
     if y < rows {
         return crate::row::next_said(text, facts, f, goals, g, y / w, (y % w) as u8) as u8;
     }
-    if crate::mark::is_final(text, goals, g, y - rows) {
-        return 1;
-    }
-    0
+    u8::from(crate::mark::is_final(text, goals, g, y - rows))
 }
 
 // Writes the body's first bytes, so many as it has.
@@ -47,10 +44,8 @@ fn fill(
         (table_byte (table text.now facts.now f) (table text.now goals.now g) (lines text.now) f)
         body.old body.new }
 {
-    let mut y: usize = 0;
-    while y < size {
+    for y in 0..size {
         body[y] = table_byte(text, facts, f, goals, g, y);
-        y += 1;
     }
 }
 

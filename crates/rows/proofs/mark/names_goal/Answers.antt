@@ -1,6 +1,8 @@
 -- `mark::names_goal` meets its contract: no word passed names the goal state.
 use mathlib.Core.Path.{sym, ◌∙◌}
 use native.Mathlib.Omega.{arith}
+use borrow.Author.Tests.{eqb-true, eqb-false}
+use Rattle.rows.proofs.Aiming.{found_it}
 use Rattle.lines.proofs.Naming.{table_length}
 use Rattle.lines.proofs.Saying.{none_named, named_past}
 use Rattle.rows.proofs.Marking.{named_here, named_later}
@@ -23,10 +25,13 @@ slice_bounds-find-end c = let n = c.next_word-w.ensures in search rules
 pub find-requires : goal.find-requires
 find-requires c = c.requires.1
 
-pub returns-then-find-q : goal.returns-then-find-q
-returns-then-find-q c =
+pub returns-then-eq : goal.returns-then-eq
+returns-then-eq c =
     let n = c.next_word-w.ensures in
-    sym (c.loop-i.invariant.1 ∙ named_here _ n c.if-start-end.false _ c.find.ensures _ (rw table_length c.requires.2) c.if-find-q.true)
+    let f = c.find.ensures in
+    let q = c.requires.2 in
+    let same = eqb-true _ _ (sym (found_it c.find.result _ _ f.within q) ∙ sym c.eq.ensures ∙ c.if-eq.true) in
+    sym (c.loop-i.invariant.1 ∙ named_here _ n c.if-start-end.false _ f.index _ (rw table_length q) same)
 
 pub loop-i-smaller : goal.loop-i-smaller
 loop-i-smaller c =
@@ -36,7 +41,9 @@ loop-i-smaller c =
 pub loop-i-preserved : goal.loop-i-preserved
 loop-i-preserved c =
     let n = c.next_word-w.ensures in
-    (n.inside, c.loop-i.invariant.1 ∙ named_later _ n c.if-start-end.false _ c.find.ensures _ c.if-find-q.false)
+    let f = c.find.ensures in
+    let other = eqb-false _ _ (sym (found_it c.find.result _ _ f.within c.requires.2) ∙ sym c.eq.ensures ∙ c.if-eq.false) in
+    (n.inside, c.loop-i.invariant.1 ∙ named_later _ n c.if-start-end.false _ f.index _ other)
 
 pub returns : goal.returns
 returns c =

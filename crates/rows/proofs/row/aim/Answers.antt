@@ -10,7 +10,7 @@ pub returns-then-start-end : goal.returns-then-start-end
 returns-then-start-end c =
     let a = c.args in
     let n = c.next_word-w.ensures in
-    sym (c.loop-i.invariant.1 ∙ aim_none _ _ _ _ n c.if-start-end.true ∙ table_length a.text.now a.goals.now 0 a.g)
+    record { index = sym (c.loop-i.invariant.1 ∙ aim_none _ _ _ _ n c.if-start-end.true ∙ table_length a.text.now a.goals.now 0 a.g); within = tt }
 
 pub slice_bounds-is_same-count : goal.slice_bounds-is_same-count
 slice_bounds-is_same-count c = let n = c.next_word-w.ensures in search rules
@@ -29,7 +29,10 @@ pub returns-then-is_same : goal.returns-then-is_same
 returns-then-is_same c =
     let n = c.next_word-w.ensures in
     let arrow = sym c.is_same.ensures ∙ c.if-is_same.true in
-    c.to_goal.ensures ∙ sym (c.loop-i.invariant.1 ∙ aim_arrow _ _ _ _ n c.if-start-end.false arrow)
+    record {
+      index = c.to_goal.ensures.index ∙ sym (c.loop-i.invariant.1 ∙ aim_arrow _ _ _ _ n c.if-start-end.false arrow);
+      within = c.to_goal.ensures.within;
+    }
 
 pub slice_bounds-lets-count : goal.slice_bounds-lets-count
 slice_bounds-lets-count c = let n = c.next_word-w.ensures in search rules
@@ -51,7 +54,7 @@ returns-then-not-lets c =
     let n = c.next_word-w.ensures in
     let other = sym c.is_same.ensures ∙ c.if-is_same.false in
     let unfit = sym c.lets.ensures ∙ c.if-not-lets.true in
-    sym (c.loop-i.invariant.1 ∙ aim_unfit _ _ _ _ n c.if-start-end.false other unfit ∙ table_length a.text.now a.goals.now 0 a.g)
+    record { index = sym (c.loop-i.invariant.1 ∙ aim_unfit _ _ _ _ n c.if-start-end.false other unfit ∙ table_length a.text.now a.goals.now 0 a.g); within = tt }
 
 pub slice_bounds-is_same-count-in-loop-i : goal.slice_bounds-is_same-count-in-loop-i
 slice_bounds-is_same-count-in-loop-i c = let n = c.next_word-w.ensures in search rules
@@ -77,4 +80,4 @@ loop-i-preserved c =
 pub returns : goal.returns
 returns c =
     let a = c.args in
-    sym (c.loop-i.invariant.1 ∙ aim_past _ _ _ _ a.text.now _ c.loop-i-test.false ∙ table_length a.text.now a.goals.now 0 a.g)
+    record { index = sym (c.loop-i.invariant.1 ∙ aim_past _ _ _ _ a.text.now _ c.loop-i-test.false ∙ table_length a.text.now a.goals.now 0 a.g); within = tt }

@@ -2,7 +2,10 @@
 use mathlib.Core.Path.{sym, ◌∙◌}
 use native.Mathlib.Omega.{arith}
 use Rattle.lines.proofs.Naming.{table_length}
-use Rattle.rows.proofs.Aiming.{first_begin, first_here, first_later, first_none}
+use Prim.Native.Nat.{◌<◌}
+use lib.ListN.{length}
+use Rattle.lines.specs.Names.{found, table}
+use Rattle.rows.proofs.Aiming.{found_some, found_none, first_begin, first_here, first_later, first_none}
 use Rattle.rows.proofs.row.first_aim.Goals as goal
 
 pub loop-at-init : goal.loop-at-init
@@ -15,11 +18,15 @@ row_aim-to-requires c =
       named = c.requires.named;
     }
 
-pub returns-then-to-g : goal.returns-then-to-g
-returns-then-to-g c =
+pub returns-then-is_some : goal.returns-then-is_some
+returns-then-is_some c =
     let a = c.args in
-    sym (c.loop-at.invariant.1
-    ∙ first_here _ _ _ _ a.text.now _ _ c.row_aim-to.ensures c.loop-at-test.true (rw table_length c.if-to-g.true))
+    let f = c.row_aim-to.ensures in
+    let some : found c.row_aim-to.result a.g < length (table a.text.now a.goals.now a.g) = rw table_length (found_some _ _ (sym c.is_some.ensures ∙ c.if-is_some.true) f.within) in
+    record {
+      index = sym (c.loop-at.invariant.1 ∙ first_here _ _ _ _ a.text.now _ _ f.index c.loop-at-test.true some);
+      within = f.within;
+    }
 
 pub next_line-at-requires : goal.next_line-at-requires
 next_line-at-requires c = c.loop-at-test.true
@@ -30,9 +37,12 @@ loop-at-smaller c = let n = c.next_line-at.ensures in omega (arith, n.forward, n
 pub loop-at-preserved : goal.loop-at-preserved
 loop-at-preserved c =
     let n = c.next_line-at.ensures in
-    (n.inside, c.loop-at.invariant.1 ∙ first_later _ _ _ _ _ _ _ c.row_aim-to.ensures n (rw table_length c.if-to-g.false))
+    (n.inside, c.loop-at.invariant.1 ∙ first_later _ _ _ _ _ _ _ c.row_aim-to.ensures.index n (rw table_length (found_none _ _ (sym c.is_some.ensures ∙ c.if-is_some.false))))
 
 pub returns : goal.returns
 returns c =
     let a = c.args in
-    sym (c.loop-at.invariant.1 ∙ first_none _ _ _ _ a.text.now _ c.loop-at-test.false ∙ table_length a.text.now a.goals.now 0 a.g)
+    record {
+      index = sym (c.loop-at.invariant.1 ∙ first_none _ _ _ _ a.text.now _ c.loop-at-test.false ∙ table_length a.text.now a.goals.now 0 a.g);
+      within = tt;
+    }

@@ -1,5 +1,4 @@
 -- `table::fill` meets its contract: the bytes passed are the body's.
-use Prim.Native.Nat.{◌-◌, ◌≤◌}
 use Rattle.lines.specs.Words.{lines}
 use Rattle.lines.specs.Names.{table}
 use Rattle.slips.specs.Filling.{Filled}
@@ -8,7 +7,4 @@ use Rattle.rows.proofs.table.fill.Given as goal
 
 abbrev pub invariant-loop-y : goal.invariant-loop-y
 invariant-loop-y l =
-    (l.y ≤ l.size) × Filled l.y (table_byte (table l.text l.facts l.f) (table l.text l.goals l.g) (lines l.text) l.f) l.initial.body l.body
-
-abbrev pub decreases-loop-y : goal.decreases-loop-y
-decreases-loop-y l = l.size - l.y
+    Filled l.y (table_byte (table l.text l.facts l.f) (table l.text l.goals l.g) (lines l.text) l.f) l.initial.body l.body

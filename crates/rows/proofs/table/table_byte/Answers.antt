@@ -1,8 +1,7 @@
 -- `table::table_byte` meets its contract: by whether the byte is of a row or a mark.
-use mathlib.Core.Bool.{true, false}
 use mathlib.Core.Path.{sym, ◌∙◌}
 use native.Mathlib.Omega.{arith}
-use Rattle.rows.proofs.Celling.{Sized, some_labels, rows_few, label_few, row_state, mark_state, row_few, byte_row, byte_mark}
+use Rattle.rows.proofs.Celling.{Sized, some_labels, rows_few, label_few, row_state, mark_state, row_few, byte_row, byte_mark, one_byte}
 use Rattle.rows.proofs.table.table_byte.Goals as goal
 
 pub overflow_mul-rows : goal.overflow_mul-rows
@@ -66,20 +65,11 @@ is_final-requires c =
     record { few_facts = p.few_facts; few_goals = p.few_goals; labels = c.width-w.ensures } in
     (c.requires.named.goals_lie, mark_state (sized) _ c.requires.y_bound c.if-y-rows.false)
 
-pub returns-then-is_final : goal.returns-then-is_final
-returns-then-is_final c =
-    let sized : let a = c.args in Sized a.f a.g c.width-w.result =
-    let p = c.requires.named in
-    record { few_facts = p.few_facts; few_goals = p.few_goals; labels = c.width-w.ensures } in
-    let a = c.args in
-    let mark = sym c.is_final.ensures ∙ c.if-is_final.true in
-    byte_mark (sized) a.text.now a.facts.now a.goals.now a.y true c.if-y-rows.false mark
-
 pub returns : goal.returns
 returns c =
     let sized : let a = c.args in Sized a.f a.g c.width-w.result =
     let p = c.requires.named in
     record { few_facts = p.few_facts; few_goals = p.few_goals; labels = c.width-w.ensures } in
     let a = c.args in
-    let mark = sym c.is_final.ensures ∙ c.if-is_final.false in
-    byte_mark (sized) a.text.now a.facts.now a.goals.now a.y false c.if-y-rows.false mark
+    c.from.ensures
+    ∙ one_byte _ ∙ byte_mark (sized) a.text.now a.facts.now a.goals.now a.y _ c.if-y-rows.false (sym c.is_final.ensures)
