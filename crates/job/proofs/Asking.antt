@@ -11,6 +11,7 @@ use Rattle.rules.specs.Job.{is_record, entered, start, places, arena}
 use Rattle.rules.specs.Bytes.{is_tall, said}
 use Rattle.rules.proofs.Kept as kept
 use Rattle.rules.proofs.Arenas as arenas
+use Rattle.job.specs.Forms.{named_form}
 use Rattle.job.specs.Layout.{Fit}
 use Rattle.job.specs.declared.layout.Layout.{Layout}
 use Rattle.sets.specs.Sets.{set_room}
@@ -36,8 +37,8 @@ module _ {b : List ℕ} {l : Layout} (f : Fit b l) where
   pub first_goal_said : l.first_goal ≡ (said b).first_goal
   first_goal_said = rw f.is_layout
 
-  pub tall_said : l.tall ≡ is_tall b
-  tall_said = rw f.is_layout
+  pub form_said : l.form ≡ named_form (is_tall b)
+  form_said = rw f.is_layout
 
   pub records_said : l.records ≡ (said b).records
   records_said = rw f.is_layout

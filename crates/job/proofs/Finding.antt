@@ -1,12 +1,16 @@
 -- Looking for a record by halving: how the range in doubt shrinks, what its end says, and that the search has one answer only, since no two
 -- records of a job that keeps the rules have the same state, action and outcome.
 use Prim.Native.Nat.{ℕ, ◌+◌, ◌<◌}
-use mathlib.Core.Bool.{true, false, true≢false}
+use mathlib.Core.Bool.{Bool, true, false, cond, ◌&&◌, ◌||◌, true≢false}
+use lib.Dec.{ltb, eqb}
 use mathlib.Core.List.{List}
 use mathlib.Core.Logic.{◌⊎◌, inl, inr}
 use mathlib.Core.Path.{◌≡◌, refl, sym, ap, subst, ◌∙◌}
 use native.Mathlib.Nat.{eq-or-lt_of_le}
 use native.Mathlib.Omega.{arith}
+use Rattle.std.specs.Prelude.{Option, Some, None}
+use Rattle.std.proofs.Common.{Ordering, Less, Equal, Greater}
+use Rattle.std.specs.Ordering.{is_lt, is_some_and, partial_ordering_then}
 use Rattle.rules.specs.Job.{is_record, recorded}
 use Rattle.rules.specs.Bytes.{said, before}
 use Rattle.rules.specs.Keeps.{Keeps, Before}
@@ -16,7 +20,30 @@ use Rattle.rules.proofs.Arenas.{recorded_iff}
 use Rattle.rules.proofs.Order.{before_iff, before_trans, before_differ}
 use Rattle.rules.proofs.Recorded.{fields_iff, match_iff, matches_alone}
 use Rattle.job.specs.Found.{FoundOf, triple, Parted}
-use Rattle.job.specs.declared.ask.Found.{Found}
+
+-- ---- figures compared
+
+-- the order of two numbers, by two tests
+abbrev order : Bool → Bool → Option Ordering
+order less same = Some (cond less Less (cond same Equal Greater))
+
+by_tests : (l e k d j c : Bool)
+    → is_some_and is_lt (partial_ordering_then (partial_ordering_then (order l e) (order k d)) (order j c)) ≡ (l || e && (k || d && j))
+by_tests true e k d j c = refl
+by_tests false false k d j c = refl
+by_tests false true true d j c = refl
+by_tests false true false false j c = refl
+by_tests false true false true true c = refl
+by_tests false true false true false true = refl
+by_tests false true false true false false = refl
+
+-- three figures in their order are a record's fields in theirs
+pub figures_before : (m : Move) (s a t : ℕ)
+    → is_some_and is_lt
+    (partial_ordering_then (partial_ordering_then (order (ltb m.state s) (eqb m.state s)) (order (ltb m.action a) (eqb m.action a)))
+    (order (ltb m.outcome t) (eqb m.outcome t))) ≡ before m (triple s a t)
+figures_before m s a t =
+    by_tests (ltb m.state s) (eqb m.state s) (ltb m.action a) (eqb m.action a) (ltb m.outcome t) (eqb m.outcome t)
 
 -- ---- the range in doubt
 
@@ -66,7 +93,7 @@ module _ {b : List ℕ} (keeps : Keeps b) (s a t : ℕ) {k : ℕ} (p : Parted (s
       omega arith
 
   -- so where record k has not, none has
-  pub found_nowhere : (k < (said b).records → is_record ((said b).move k) s a t ≡ false) → FoundOf (said b) s a t Found.Nothing
+  pub found_nowhere : (k < (said b).records → is_record ((said b).move k) s a t ≡ false) → FoundOf (said b) s a t None
   found_nowhere other =
       if_not_true (recorded (said b) s a t)
       (λ r.
@@ -76,9 +103,9 @@ module _ {b : List ℕ} (keeps : Keeps b) (s a t : ℕ) {k : ℕ} (p : Parted (s
 
 -- ---- one answer only
 
-pub found_unique : {b : List ℕ} → Keeps b → (s a t : ℕ) (x y : Found) → FoundOf (said b) s a t x → FoundOf (said b) s a t y → x ≡ y
-found_unique {b} k s a t (Found.At i) (Found.At m) (p, h, e) (q, g, d) =
-    ap Found.At (matches_alone k ((match_iff (said b) s a t i).0 (h, e)) ((match_iff (said b) s a t m).0 (g, d)))
-found_unique k s a t (Found.At i) Found.Nothing (p, h, e) n = absurd (true≢false (sym p ∙ n))
-found_unique k s a t Found.Nothing (Found.At m) n (q, g, d) = absurd (true≢false (sym q ∙ n))
-found_unique k s a t Found.Nothing Found.Nothing n n' = refl
+pub found_unique : {b : List ℕ} → Keeps b → (s a t : ℕ) (x y : Option ℕ) → FoundOf (said b) s a t x → FoundOf (said b) s a t y → x ≡ y
+found_unique {b} k s a t (Some i) (Some m) (p, h, e) (q, g, d) =
+    ap Some (matches_alone k ((match_iff (said b) s a t i).0 (h, e)) ((match_iff (said b) s a t m).0 (g, d)))
+found_unique k s a t (Some i) None (p, h, e) n = absurd (true≢false (sym p ∙ n))
+found_unique k s a t None (Some m) n (q, g, d) = absurd (true≢false (sym q ∙ n))
+found_unique k s a t None None n n' = refl

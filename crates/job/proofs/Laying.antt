@@ -12,14 +12,18 @@ use lib.Dec.{leb, ltb, leb-suc-suc}
 use lib.ListN.{length, get_or}
 use lib.Pow.{pow_mono}
 use Rattle.game.specs.Below.{every_below}
+use Rattle.rules.specs.Form as rules
 use Rattle.rules.specs.Form.{form_of}
-use Rattle.rules.specs.Bytes.{offset, size, is_tall, form, rows, mark, said, contents, record_fault}
+use Rattle.rules.specs.Bytes.{offset, size, is_tall, form, rows, mark, said, contents, in_range, counts, record_fault}
 use Rattle.rules.specs.declared.place.Counts.{Counts}
 use Rattle.rules.specs.declared.place.Move.{Move}
 use Rattle.game.proofs.Tests.{every_below_ext}
 use Rattle.rules.proofs.Forms.{counts_sized}
 use Rattle.rules.proofs.Judged.{InRange, contents_iff, range_iff}
 use Rattle.job.specs.Joined.{joined}
+use Rattle.job.specs.Forms.{in_rules, named_form}
+use Rattle.job.specs.declared.form.Form.{Form}
+use Rattle.job.proofs.Named.{named_back}
 use Rattle.job.specs.Layout.{layout, Laid, in_ranges, fault_after}
 use Rattle.job.specs.declared.layout.Layout.{Layout}
 use Rattle.job.proofs.Joining.{Typed, joined_before}
@@ -50,7 +54,7 @@ laid_out b c n =
       labels_at = offset b 1;
       moves_at = offset b 2;
       goal_at = offset b 3;
-      tall = is_tall b;
+      form = named_form (is_tall b);
     }
 
 -- Counts begins at 16, and Moves ends where Goal begins
@@ -68,8 +72,8 @@ pub record Bodies (b : List ℕ) (l : Layout) : Type 0 where
   pub states_are : l.states ≡ (said b).states
   pub goals_are : l.goals ≡ (said b).goals
   pub records_are : l.records ≡ (said b).records
-  pub form_is : l.tall ≡ is_tall b
-  pub records_inside : l.moves_at + (form_of l.tall).record_size * l.records ≤ length b
+  pub form_is : l.form ≡ named_form (is_tall b)
+  pub records_inside : l.moves_at + (in_rules l.form).record_size * l.records ≤ length b
   pub rows_are : l.goals * 2 ^ l.propositions ≡ rows b
 
 -- whole records take no more bytes than there are
@@ -88,15 +92,21 @@ bodies b l h =
       goals_are = refl;
       records_are = refl;
       form_is = refl;
-      records_inside = omega (arith, records_bytes (is_tall b) (size b 2));
+      records_inside = rw (named_back (is_tall b)) (omega (arith, records_bytes (is_tall b) (size b 2)));
       rows_are = refl;
     })
 
 -- ---- counts
 
 pub ranges_iff : (l : Layout) → (in_ranges l ≡ true)
-    ↔ InRange (form_of l.tall).most_states l.states l.actions l.propositions l.goals l.first l.first_goal
-ranges_iff l = range_iff (form_of l.tall).most_states l.states l.actions l.propositions l.goals l.first l.first_goal
+    ↔ InRange (in_rules l.form).most_states l.states l.actions l.propositions l.goals l.first l.first_goal
+ranges_iff l = range_iff (in_rules l.form).most_states l.states l.actions l.propositions l.goals l.first l.first_goal
+
+-- the layout's ranges are those of the bytes
+pub counts_said : (b : List ℕ) → in_ranges (layout b) ≡ counts b
+counts_said b =
+    let j = said b in
+    ap (λ (f : rules.Form). in_range f.most_states j.states j.actions j.propositions j.goals j.first j.first_goal) (named_back (is_tall b))
 
 -- in their ranges, there are few rows
 pub rows_few : (l : Layout) → in_ranges l ≡ true → l.goals * 2 ^ l.propositions ≤ 2048
@@ -114,10 +124,10 @@ previous f zero = 0
 previous f (suc k) = joined (f k)
 
 -- record k of n lies inside the bytes that all of them take
-pub record_inside : (t : Bool) (at : ℕ) {k n m : ℕ} → k < n → at + (form_of t).record_size * n ≤ m
-    → at + (form_of t).record_size * k + (form_of t).record_size ≤ m
-record_inside true at h l = omega arith
-record_inside false at h l = omega arith
+pub record_inside : (t : Form) (at : ℕ) {k n m : ℕ} → k < n → at + (in_rules t).record_size * n ≤ m
+    → at + (in_rules t).record_size * k + (in_rules t).record_size ≤ m
+record_inside Form.Tall at h l = omega arith
+record_inside Form.Old at h l = omega arith
 
 -- a record of bytes is as wide as its type
 typed : (b : List ℕ) → ((i : ℕ) → get_or b i 0 < 256) → (t : Bool) (i : ℕ) → Typed ((form_of t).record_at b i)
@@ -132,21 +142,25 @@ typed b h false i =
 
 -- record k of a layout
 abbrev pub record_of : List ℕ → Layout → ℕ → Move
-record_of b l k = (form_of l.tall).record_at b (l.moves_at + (form_of l.tall).record_size * k)
+record_of b l k = (in_rules l.form).record_at b (l.moves_at + (in_rules l.form).record_size * k)
+
+-- what the layout's form reads as record k is what the job says
+record_said : (b : List ℕ) (k : ℕ) → record_of b (layout b) k ≡ (said b).move k
+record_said b k = ap (λ (f : rules.Form). f.record_at b (offset b 2 + f.record_size * k)) (named_back (is_tall b))
 
 -- what is wrong with record k after the one before it, joined, is what is wrong with it among all records
 pub fault_is : (forgive : Bool) (b : List ℕ) (l : Layout) → ((i : ℕ) → get_or b i 0 < 256) → l ≡ layout b → (k : ℕ)
     → fault_after forgive l k (previous (said b).move k) (record_of b l k) ≡ record_fault forgive (said b) k
-fault_is forgive b l h e zero = rw (e, lt-ltb 0 (joined ((said b).move 0)) (omega arith))
+fault_is forgive b l h e zero = rw (e, record_said b 0, lt-ltb 0 (joined ((said b).move 0)) (omega arith))
 fault_is forgive b l h e (suc k) =
     let t = is_tall b in
     let at : ℕ → ℕ = λ i. offset b 2 + (form_of t).record_size * i in
-    rw (e, joined_before ((said b).move k) ((said b).move (suc k)) (typed b h t (at k)) (typed b h t (at (suc k))))
+    rw (e, record_said b (suc k), joined_before ((said b).move k) ((said b).move (suc k)) (typed b h t (at k)) (typed b h t (at (suc k))))
 
 -- record k, joined, is what stands before the next
 pub previous_is : (b : List ℕ) (l : Layout) → l ≡ layout b → (k : ℕ)
     → joined (record_of b l k) ≡ previous (said b).move (k + 1)
-previous_is b l e k = rw (add-one k, e)
+previous_is b l e k = rw (add-one k, e, record_said b k)
 
 -- ---- marks
 

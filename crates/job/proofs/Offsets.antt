@@ -10,10 +10,11 @@ use lib.ListN.{length, get_or}
 use lib.Pow.{mod-mod-pow}
 use Rattle.sets.specs.Sets.{bit}
 use Rattle.rules.specs.Job.{entered}
-use Rattle.rules.specs.Form.{form_of}
-use Rattle.rules.specs.Bytes.{byte, said}
+use Rattle.rules.specs.Bytes.{byte, is_tall, said}
 use Rattle.rules.specs.declared.place.Move.{Move}
 use Rattle.rules.proofs.Kept as kept
+use Rattle.job.specs.Forms.{in_rules}
+use Rattle.job.proofs.Named.{named_back}
 use Rattle.job.specs.Layout.{Fit, FitBut}
 use Rattle.job.specs.declared.layout.Layout.{Layout}
 use Rattle.job.proofs.Asking.{states_said, goals_said}
@@ -59,9 +60,9 @@ module _ {b : List ℕ} {l : Layout} (f : Fit b l) where
 
 module _ {forgive : Bool} {b : List ℕ} {l : Layout} (f : FitBut forgive b l) where
   pub move_inside : {k : ℕ} → k < l.records
-      → l.moves_at + (form_of l.tall).record_size * k + (form_of l.tall).record_size ≤ length b
-  move_inside h = record_inside l.tall l.moves_at h (rw f.is_layout (kept.moves_end f.keeps))
+      → l.moves_at + (in_rules l.form).record_size * k + (in_rules l.form).record_size ≤ length b
+  move_inside h = record_inside l.form l.moves_at h (rw (f.is_layout, named_back (is_tall b)) (kept.moves_end f.keeps))
 
   pub move_value : (k : ℕ) {m : Move}
-      → m ≡ (form_of l.tall).record_at b (l.moves_at + (form_of l.tall).record_size * k) → m ≡ (said b).move k
-  move_value k e = rw f.is_layout at e
+      → m ≡ (in_rules l.form).record_at b (l.moves_at + (in_rules l.form).record_size * k) → m ≡ (said b).move k
+  move_value k e = rw (f.is_layout, named_back (is_tall b)) at e

@@ -7,6 +7,7 @@ use mathlib.Core.Path.{◌≡◌, refl, sym, ap, ◌∙◌}
 use native.Mathlib.Omega.{arith}
 use borrow.Author.Tests.{ne_eqb}
 use lib.Dec.{eqb}
+use Rattle.std.specs.Prelude.{Result, Ok, Err}
 use Rattle.rules.specs.Fault.{Fault, only}
 use Rattle.rules.specs.Bytes.{fault, refusal, fault_but, refusal_but}
 use Rattle.rules.specs.Answers.{refusal_fault}
@@ -17,7 +18,6 @@ use Rattle.rules.proofs.Kept.{kept_but}
 use Rattle.job.specs.Layout.{layout, FitBut, Fit}
 use Rattle.job.specs.Reading.{no_layout, ReadingFigures, reading_figures, reading, reading_but}
 use Rattle.job.specs.declared.layout.Layout.{Layout}
-use Rattle.job.specs.declared.layout.Reading.{Reading}
 
 -- ---- the figures by the fault
 
@@ -48,38 +48,38 @@ module _ (forgive : Bool) (b : List ℕ) where
 
   -- ---- what callers cite
 
-  pub read_fit_but : (l : Layout) → reading_figures (Reading.Job l) ≡ reading_but forgive b → FitBut forgive b l
+  pub read_fit_but : (l : Layout) → reading_figures (Ok l) ≡ reading_but forgive b → FitBut forgive b l
   read_fit_but l e =
       let none : refusal_but forgive b ≡ 0 =
       sym (ap (λ (f : ReadingFigures). f.fault.number) e ∙ ap (λ (f : Fault). f.number) fault_told) in
       record { keeps = (kept_but forgive b).0 none; is_layout = ap (λ (f : ReadingFigures). f.layout) (e ∙ accepts none) }
 
-  pub read_refused_but : (r : Refusal) → reading_figures (Reading.Refused r) ≡ reading_but forgive b → fault_but forgive b ≡ refusal_fault r
+  pub read_refused_but : (r : Refusal) → reading_figures (Err r) ≡ reading_but forgive b → fault_but forgive b ≡ refusal_fault r
   read_refused_but r e = sym (ap (λ (f : ReadingFigures). f.fault) e ∙ fault_told)
 
   -- bytes that are refused are refused by a number
-  pub read_refused_some_but : (r : Refusal) → reading_figures (Reading.Refused r) ≡ reading_but forgive b → refusal_but forgive b ≢ 0
+  pub read_refused_some_but : (r : Refusal) → reading_figures (Err r) ≡ reading_but forgive b → refusal_but forgive b ≢ 0
   read_refused_some_but r e z = omega (arith, (refusal_some r).1, ap (λ (f : Fault). f.number) (read_refused_but r e))
 
 -- with nothing forgiven
 
-pub read_fit : (b : List ℕ) (l : Layout) → reading_figures (Reading.Job l) ≡ reading b → Fit b l
+pub read_fit : (b : List ℕ) (l : Layout) → reading_figures (Ok l) ≡ reading b → Fit b l
 read_fit = read_fit_but false
 
-pub read_refused : (b : List ℕ) (r : Refusal) → reading_figures (Reading.Refused r) ≡ reading b → fault b ≡ refusal_fault r
+pub read_refused : (b : List ℕ) (r : Refusal) → reading_figures (Err r) ≡ reading b → fault b ≡ refusal_fault r
 read_refused = read_refused_but false
 
-pub read_refused_some : (b : List ℕ) (r : Refusal) → reading_figures (Reading.Refused r) ≡ reading b → refusal b ≢ 0
+pub read_refused_some : (b : List ℕ) (r : Refusal) → reading_figures (Err r) ≡ reading b → refusal b ≢ 0
 read_refused_some = read_refused_some_but false
 
 -- ---- an answer is known by its figures
 
-abbrev reading_of : ReadingFigures → Reading
-reading_of f = by_refusal f.fault.number f.fault.«record» (Reading.Job f.layout) Reading.Refused
+abbrev reading_of : ReadingFigures → Result Layout Refusal
+reading_of f = by_refusal f.fault.number f.fault.«record» (Ok f.layout) Err
 
-reading_back : (r : Reading) → reading_of (reading_figures r) ≡ r
-reading_back (Reading.Job l) = refl
-reading_back (Reading.Refused r) = by_refusal_back r _ Reading.Refused
+reading_back : (r : Result Layout Refusal) → reading_of (reading_figures r) ≡ r
+reading_back (Ok l) = refl
+reading_back (Err r) = by_refusal_back r _ Err
 
-pub reading_unique : (r s : Reading) → reading_figures r ≡ reading_figures s → r ≡ s
+pub reading_unique : (r s : Result Layout Refusal) → reading_figures r ≡ reading_figures s → r ≡ s
 reading_unique = known_by reading_figures reading_of reading_back

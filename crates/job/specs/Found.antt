@@ -1,14 +1,13 @@
 -- What looking for a record answers.
-use Rattle.std.specs.Prelude.{ℕ, ◌≤◌, ◌<◌, true, false, ◌≡◌}
+use Rattle.std.specs.Prelude.{ℕ, ◌≤◌, ◌<◌, true, false, ◌≡◌, Option, Some, None}
 use Rattle.rules.specs.Job.{Job, is_record, recorded}
 use Rattle.rules.specs.Keeps.{Before}
 use Rattle.rules.specs.declared.place.Move.{Move}
-use Rattle.job.specs.declared.ask.Found.{Found}
 
 -- an answer names the record with this state, action and outcome, or says that no record has them
-abbrev pub FoundOf : Job → ℕ → ℕ → ℕ → Found → Type 0
-FoundOf j s a t (Found.At k) = (recorded j s a t ≡ true) × (k < j.records) × (is_record (j.move k) s a t ≡ true)
-FoundOf j s a t Found.Nothing = recorded j s a t ≡ false
+abbrev pub FoundOf : Job → ℕ → ℕ → ℕ → Option ℕ → Type 0
+FoundOf j s a t (Some k) = (recorded j s a t ≡ true) × (k < j.records) × (is_record (j.move k) s a t ≡ true)
+FoundOf j s a t None = recorded j s a t ≡ false
 
 -- a state, an action and an outcome as a record has them
 abbrev pub triple : ℕ → ℕ → ℕ → Move

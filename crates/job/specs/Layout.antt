@@ -1,11 +1,11 @@
 -- The layout that a job's bytes say, and what reading and asking rely on.
 use Rattle.std.specs.Prelude.{ℕ, ◌≤◌, Bool, true, false, List, ◌≡◌, ltb, length}
 use Rattle.rules.specs.Fault.{Fault}
-use Rattle.rules.specs.Form.{form_of}
 use Rattle.rules.specs.Bytes.{offset, is_tall, said, contents, in_range, within_but, judged}
 use Rattle.rules.specs.Keeps.{KeepsBut}
 use Rattle.rules.specs.declared.place.Move.{Move}
 use Rattle.job.specs.Joined.{joined}
+use Rattle.job.specs.Forms.{in_rules, named_form}
 use Rattle.job.specs.declared.layout.Layout.{Layout}
 
 abbrev pub layout : List ℕ → Layout
@@ -21,13 +21,13 @@ layout b =
       labels_at = offset b 1;
       moves_at = offset b 2;
       goal_at = offset b 3;
-      tall = is_tall b;
+      form = named_form (is_tall b);
     }
 
 -- every count and first number of the layout is in its range
 abbrev pub in_ranges : Layout → Bool
 in_ranges l =
-    in_range (form_of l.tall).most_states l.states l.actions l.propositions l.goals l.first l.first_goal
+    in_range (in_rules l.form).most_states l.states l.actions l.propositions l.goals l.first l.first_goal
 
 -- what is wrong with record k, which is m, where last is the one before it, joined, or 0
 abbrev pub fault_after : Bool → Layout → ℕ → ℕ → Move → Fault

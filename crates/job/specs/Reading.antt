@@ -1,16 +1,15 @@
 -- What judging and reading answer: the number for each case with its record, and the layout where it is 0.
-use Rattle.std.specs.Prelude.{ℕ, Bool, false, cond, not, List, eqb}
+use Rattle.std.specs.Prelude.{ℕ, Bool, false, cond, not, List, eqb, Result, Ok, Err}
 use Rattle.rules.specs.Fault.{Fault, only}
 use Rattle.rules.specs.Bytes.{fault_but, refusal_but}
-use Rattle.rules.specs.Answers.{refusal_fault}
+use Rattle.rules.specs.Answers.{refusal_fault, fault_of}
+use Rattle.rules.specs.declared.answer.Refusal.{Refusal}
 use Rattle.job.specs.Layout.{layout}
 use Rattle.job.specs.declared.layout.Layout.{Layout}
-use Rattle.job.specs.declared.layout.Reading.{Reading}
-use Rattle.job.specs.declared.layout.Verdict.{Verdict}
+use Rattle.job.specs.declared.form.Form.{Form}
 
-abbrev pub verdict_fault : Verdict → Fault
-verdict_fault Verdict.Good = only 0
-verdict_fault (Verdict.Bad r) = refusal_fault r
+abbrev pub verdict_fault : Result (Unit {0}) Refusal → Fault
+verdict_fault r = fault_of r
 
 -- a layout with every figure 0
 abbrev pub no_layout : Layout
@@ -26,16 +25,16 @@ no_layout =
       labels_at = 0;
       moves_at = 0;
       goal_at = 0;
-      tall = false;
+      form = Form.Old;
     }
 
 pub record ReadingFigures : Type 0 where
   pub fault : Fault
   pub layout : Layout
 
-abbrev pub reading_figures : Reading → ReadingFigures
-reading_figures (Reading.Job l) = record { fault = only 0; layout = l }
-reading_figures (Reading.Refused r) = record { fault = refusal_fault r; layout = no_layout }
+abbrev pub reading_figures : Result Layout Refusal → ReadingFigures
+reading_figures (Ok l) = record { fault = only 0; layout = l }
+reading_figures (Err r) = record { fault = refusal_fault r; layout = no_layout }
 
 -- what reading answers of the bytes b; a too large outcome may be forgiven
 abbrev pub reading_but : Bool → List ℕ → ReadingFigures

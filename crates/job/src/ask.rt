@@ -7,7 +7,6 @@ ghost use Rattle.job.specs.Layout.{Fit, FitBut};
 ghost use Rattle.job.specs.Found.{FoundOf, triple, Parted};
 
 use crate::body::{BUSY, byte_at, labels_of};
-use crate::form::nth_record;
 use crate::layout::Layout;
 use rules::place::{Move, Place};
 
@@ -17,7 +16,7 @@ fn label(job: &[u8], l: Layout, s: usize) -> usize
     requires s_lt_states { s < l.states }
     ensures { result ≡ (said job.now).label s }
 {
-    sets::label::part_below(job[l.labels_at + s], l.propositions) as usize
+    usize::from(sets::label::part_below(job[l.labels_at + s], l.propositions))
 }
 
 // The goal state after entering state t from goal state q.
@@ -72,10 +71,7 @@ pub fn is_accepted(job: &[u8], l: Layout, s: usize, q: usize) -> bool
     requires q_lt_goals { q < l.goals }
     ensures { result ≡ (arena (said job.now)).accepted (place s q) }
 {
-    if is_final(job, l, q) {
-        return !is_busy(job, l, s);
-    }
-    false
+    is_final(job, l, q) && !is_busy(job, l, s)
 }
 
 // Record k.
@@ -84,7 +80,7 @@ pub fn move_at(job: &[u8], l: Layout, k: usize) -> Move
     requires k_lt_records { k < l.records }
     ensures { result ≡ (said job.now).move k }
 {
-    nth_record(job, l.tall, l.moves_at, k)
+    l.form.nth_record(job, l.moves_at, k)
 }
 
 // Record k of a job that was read with too large outcomes forgiven.
@@ -93,43 +89,11 @@ pub fn forgiven_move_at(job: &[u8], l: Layout, k: usize) -> Move
     requires k_lt_records { k < l.records }
     ensures { result ≡ (said job.now).move k }
 {
-    nth_record(job, l.tall, l.moves_at, k)
+    l.form.nth_record(job, l.moves_at, k)
 }
 
-// What looking for a record answers: its number, or that there is none.
-#[derive(Clone, Copy)]
-pub enum Found {
-    At(usize),
-    Nothing,
-}
-
-// Whether a record has this state, action and outcome.
-fn is_move(m: Move, s: usize, a: usize, t: usize) -> bool
-    ensures { result ≡ is_record m s a t }
-{
-    if m.state as usize != s {
-        return false;
-    }
-    if m.action as usize != a {
-        return false;
-    }
-    m.outcome as usize == t
-}
-
-// Whether a record comes before this state, action and outcome, compared field by field.
-fn is_before(m: Move, s: usize, a: usize, t: usize) -> bool
-    ensures { result ≡ before m (triple s a t) }
-{
-    if m.state as usize != s {
-        return (m.state as usize) < s;
-    }
-    if m.action as usize != a {
-        return (m.action as usize) < a;
-    }
-    (m.outcome as usize) < t
-}
-
-// How many records come before this state, action and outcome. Records ascend, so each look halves the range in doubt.
+// How many records come before this state, action and outcome. Records ascend, so each look halves the range in doubt. They are no slice,
+// since a record has three bytes or five, so that there is nothing that `partition_point` could search.
 pub fn count_before(job: &[u8], l: Layout, s: usize, a: usize, t: usize) -> usize
     requires { Fit job.now l }
     ensures { Parted (said job.now) (triple s a t) result result }
@@ -138,8 +102,7 @@ pub fn count_before(job: &[u8], l: Layout, s: usize, a: usize, t: usize) -> usiz
     let mut high = l.records;
     while low < high {
         let middle = low + (high - low) / 2;
-        let m = move_at(job, l, middle);
-        if is_before(m, s, a, t) {
+        if move_at(job, l, middle).figures() < (s, a, t) {
             low = middle + 1;
         } else {
             high = middle;
@@ -149,17 +112,13 @@ pub fn count_before(job: &[u8], l: Layout, s: usize, a: usize, t: usize) -> usiz
 }
 
 // The record with this state, action and outcome: there is at most one, and it is the first that does not come before them.
-pub fn find(job: &[u8], l: Layout, s: usize, a: usize, t: usize) -> Found
+pub fn find(job: &[u8], l: Layout, s: usize, a: usize, t: usize) -> Option<usize>
     requires { Fit job.now l }
     ensures { FoundOf (said job.now) s a t result }
 {
     let k = count_before(job, l, s, a, t);
-    if l.records <= k {
-        return Found::Nothing;
+    if k < l.records && move_at(job, l, k).figures() == (s, a, t) {
+        return Some(k);
     }
-    let m = move_at(job, l, k);
-    if is_move(m, s, a, t) {
-        return Found::At(k);
-    }
-    Found::Nothing
+    None
 }

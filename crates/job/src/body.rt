@@ -4,6 +4,7 @@ ghost use Rattle.game.specs.Below.{every_below};
 ghost use Rattle.rules.specs.Form.{word};
 ghost use Rattle.job.specs.Joined.{joined};
 
+use rules::bytes::word_at;
 use rules::place::Move;
 
 // The bit of a label's byte that marks its state as busy. The label is below it.
@@ -14,22 +15,22 @@ pub fn byte_at(job: &[u8], at: usize) -> usize
     requires { at < length job.now }
     ensures { result ≡ get_or job.now at 0 }
 {
-    job[at] as usize
+    usize::from(job[at])
 }
 
-// The number of two bytes at a place of the job, low byte first.
-pub fn word_at(job: &[u8], at: usize) -> usize
+// The number of two bytes at a place of the job, as wide as a count.
+pub fn number_at(job: &[u8], at: usize) -> usize
     requires { at + 2 ≤ length job.now }
     ensures { result ≡ word job.now at }
 {
-    byte_at(job, at) + 256 * byte_at(job, at + 1)
+    usize::from(word_at(job, at))
 }
 
 // A record's three fields joined into one number, above 0.
 pub fn join(m: Move) -> u64
     ensures { result ≡ joined m }
 {
-    ((m.state as u64) * 256 + (m.action as u64)) * 65536 + (m.outcome as u64) + 1
+    (u64::from(m.state) * 256 + u64::from(m.action)) * 65536 + u64::from(m.outcome) + 1
 }
 
 // How many labels there are of so many propositions.
@@ -45,12 +46,10 @@ pub fn bytes_below(job: &[u8], at: usize, n: usize, limit: usize) -> bool
     requires { at + n ≤ length job.now }
     ensures { result ≡ every_below n (λ i. ltb (get_or job.now (at + i) 0) limit) }
 {
-    let mut i: usize = 0;
-    while i < n {
+    for i in 0..n {
         if limit <= byte_at(job, at + i) {
             return false;
         }
-        i += 1;
     }
     true
 }
@@ -68,12 +67,10 @@ pub fn labels_below(job: &[u8], at: usize, n: usize, p: u8) -> bool
     requires { at + n ≤ length job.now }
     ensures { result ≡ every_below n (λ i. ltb (get_or job.now (at + i) 0 % 128) (2 ^ p)) }
 {
-    let mut i: usize = 0;
-    while i < n {
+    for i in 0..n {
         if !label_fits(job[at + i], p) {
             return false;
         }
-        i += 1;
     }
     true
 }

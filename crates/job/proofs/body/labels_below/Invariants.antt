@@ -2,7 +2,7 @@
 use mathlib.Core.Bool.{Bool, true}
 use mathlib.Core.List.{List}
 use mathlib.Core.Path.{◌≡◌}
-use Prim.Native.Nat.{ℕ, ◌+◌, ◌-◌, ◌%◌, ◌^◌, ◌≤◌}
+use Prim.Native.Nat.{ℕ, ◌+◌, ◌%◌, ◌^◌}
 use lib.Dec.{ltb}
 use lib.ListN.{get_or}
 use Rattle.game.specs.Below.{every_below}
@@ -13,7 +13,4 @@ abbrev label_below : List ℕ → ℕ → ℕ → ℕ → Bool
 label_below b at limit k = ltb (get_or b (at + k) 0 % 128) limit
 
 abbrev pub invariant-loop-i : goal.invariant-loop-i
-invariant-loop-i l = (l.i ≤ l.n) × (every_below l.i (label_below l.job l.at (2 ^ l.p)) ≡ true)
-
-abbrev pub decreases-loop-i : goal.decreases-loop-i
-decreases-loop-i l = l.n - l.i
+invariant-loop-i l = every_below l.i (label_below l.job l.at (2 ^ l.p)) ≡ true
