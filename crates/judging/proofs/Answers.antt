@@ -1,10 +1,11 @@
 -- What judging answers is determined by the bytes and the trace; and each way through the call gives the answer that is due.
 use Prim.Native.Nat.{ℕ, ◌≤◌, ◌<◌}
-use mathlib.Core.Bool.{true, false, cond}
+use mathlib.Core.Bool.{Bool, true, false, cond}
 use mathlib.Core.List.{List}
 use mathlib.Core.Logic.{◌↔◌}
 use mathlib.Core.Path.{◌≡◌, refl, sym, ◌∙◌, ap, subst}
 use native.Mathlib.Omega.{arith}
+use borrow.Author.Tests.{eqb-false, eqb-true}
 use lib.Dec.{ltb, eqb}
 use lib.ListN.{length, get_or}
 use Rattle.game.specs.Below.{every_below}
@@ -17,9 +18,10 @@ use Rattle.judging.specs.Judging.{judged_refusal, judged_holds}
 use Rattle.judging.specs.Judging.{TraceFits, LabelsFit, Judging, trace_bad, formula_bad, too_deep, label_bad, yes, no}
 use Rattle.judging.specs.Reading.{ReadOf, good, bad, ReadWhole}
 use Rattle.judging.specs.Walking.{Ready, JudgedAt}
-use Rattle.judging.specs.declared.run.Judged.{Judged}
+use Rattle.judging.specs.declared.run.JudgeError.{JudgeError}
 use Rattle.judging.specs.declared.walk.Part.{Part}
-use Rattle.judging.specs.declared.read.Read.TheVariants.{Good, Bad}
+use Rattle.judging.specs.declared.read.Read.{Read}
+use Rattle.std.specs.Prelude.{Some, None, Result, Ok, Err}
 use Rattle.judging.proofs.Readings.{stands_unique}
 use Rattle.judging.proofs.Bytes.{formed_stands, stands_formed, formed_unique}
 
@@ -85,23 +87,29 @@ judged_exactly j = go j refl
     go (no {f} u x n l s) e = (f, x, (λ z. absurd (omega arith), λ z. absurd (s z)))
 
 -- an answer is known by its figures
-abbrev judged_of : ℕ → ℕ → Judged
+abbrev judged_of : ℕ → ℕ → Result Bool JudgeError
 judged_of r a =
-    cond (eqb r 19) Judged.Trace (cond (eqb r 20) Judged.Formula (cond (eqb r 21) Judged.Deep (cond (eqb r 22) Judged.Letter
-    (cond (eqb a 1) Judged.Holds Judged.HoldsNot))))
+    cond (eqb r 19) (Err JudgeError.Trace) (cond (eqb r 20) (Err JudgeError.Formula) (cond (eqb r 21) (Err JudgeError.Depth)
+    (cond (eqb r 22) (Err JudgeError.Letter) (Ok (eqb a 1)))))
 
-judged_back : (x : Judged) → judged_of (judged_refusal x) (judged_holds x) ≡ x
-judged_back Judged.Holds = refl
-judged_back Judged.HoldsNot = refl
-judged_back Judged.Trace = refl
-judged_back Judged.Formula = refl
-judged_back Judged.Deep = refl
-judged_back Judged.Letter = refl
+judged_back : (x : Result Bool JudgeError) → judged_of (judged_refusal x) (judged_holds x) ≡ x
+judged_back (Ok true) = refl
+judged_back (Ok false) = refl
+judged_back (Err JudgeError.Trace) = refl
+judged_back (Err JudgeError.Formula) = refl
+judged_back (Err JudgeError.Depth) = refl
+judged_back (Err JudgeError.Letter) = refl
 
-pub judged_known : (x y : Judged) → judged_refusal x ≡ judged_refusal y → judged_holds x ≡ judged_holds y → x ≡ y
+pub judged_known : (x y : Result Bool JudgeError) → judged_refusal x ≡ judged_refusal y → judged_holds x ≡ judged_holds y → x ≡ y
 judged_known x y r a = sym (judged_back x) ∙ ap (λ (n : ℕ). judged_of n (judged_holds x)) r ∙ ap (judged_of (judged_refusal y)) a ∙ judged_back y
 
 -- ---- each way through the call
+
+pub none_is : {n : ℕ} → eqb n 0 ≡ true → n ≡ 0
+none_is {n} e = eqb-true n 0 e
+
+pub some_is : {n : ℕ} → eqb n 0 ≡ false → n ≡ 0 → ⊥
+some_is {n} e = eqb-false n 0 e
 
 pub fits : (t : List ℕ) → (length t ≡ 0 → ⊥) → length t ≤ 64 → TraceFits t
 fits t n h = record { some = omega (arith, n); few = h }
@@ -117,24 +125,25 @@ module _ (b t : List ℕ) where
     pub refuse_overlong : 64 < length b → Judging b t 20 0
     refuse_overlong h = formula_bad u λ f x. omega (arith, x.few)
 
-    pub refuse_unread : ReadOf b 0 Bad → Judging b t 20 0
+    pub refuse_unread : ReadOf b 0 None → Judging b t 20 0
     refuse_unread (bad n) = formula_bad u λ f x. n f (formed_stands b f x).0
 
-    pub refuse_left : (e d : ℕ) → ReadOf b 0 (Good e d) → (e ≡ length b → ⊥) → Judging b t 20 0
-    refuse_left e d (good f s p q) n = formula_bad u λ g y.
-        let (r, m) = formed_stands b g y in
-        let z : nodes f ≡ nodes g = ap nodes (stands_unique b 0 f g s r) in
-        let w : e ≡ length b = omega arith in
+    pub refuse_left : (r : Read) → ReadOf b 0 (Some r) → (r.end ≡ length b → ⊥) → Judging b t 20 0
+    refuse_left r (good f s p q) n = formula_bad u λ g y.
+        let (k, m) = formed_stands b g y in
+        let z : nodes f ≡ nodes g = ap nodes (stands_unique b 0 f g s k) in
+        let w : r.end ≡ length b = omega arith in
         n w
 
-pub whole : {b t : List ℕ} {e d : ℕ} → TraceFits t → length b ≤ 64 → e ≡ length b → ReadOf b 0 (Good e d) → ReadWhole b d t
-whole {b} {d = d} u h e r = record { trace = u; few = h; read = subst (λ (n : ℕ). ReadOf b 0 (Good n d)) e r }
+pub whole : {b t : List ℕ} (r : Read) → TraceFits t → length b ≤ 64 → r.end ≡ length b → ReadOf b 0 (Some r) → ReadWhole b r.depth t
+whole {b} r u h e x =
+    record { trace = u; few = h; read = subst (λ (n : ℕ). ReadOf b 0 (Some (record { end = n; depth = r.depth }))) e x }
 
 module _ {b t : List ℕ} {d : ℕ} (z : ReadWhole b d t) where
   found : (f : Formula) × Formed b f × Stands b 0 f × (d ≡ depth f)
   found = go z.read
     where
-      go : ReadOf b 0 (Good (length b) d) → (f : Formula) × Formed b f × Stands b 0 f × (d ≡ depth f)
+      go : ReadOf b 0 (Some (record { end = length b; depth = d })) → (f : Formula) × Formed b f × Stands b 0 f × (d ≡ depth f)
       go (good f s p q) = let w : nodes f ≡ length b = omega (arith, p) in (f, stands_formed b f z.few s w, s, q)
 
   pub refuse_deep : 3 < d → Judging b t 21 0
@@ -166,3 +175,11 @@ module _ {b t : List ℕ} {d : ℕ} (z : ReadWhole b d t) where
       answer_no v =
           no z.trace found.1 shallow all_fit
           (λ h. clash (x.value found.0 found.2 ∙ (sat_iff t found.0 0 z.trace.some).1 h) v)
+
+      -- the answer, whichever it is
+      pub answered : Judging b t 0 (judged_holds (Ok r.holds))
+      answered = go r.holds refl
+        where
+          go : (v : Bool) → r.holds ≡ v → Judging b t 0 (judged_holds (Ok v))
+          go true e = answer_yes e
+          go false e = answer_no e

@@ -1,5 +1,5 @@
 -- One formula stands at a byte at most; and what reading it answers, from what reading its parts answers.
-use Prim.Native.Nat.{ℕ, zero, suc, ◌+◌, ◌≤◌, ◌<◌, max}
+use Prim.Native.Nat.{ℕ, zero, suc, ◌+◌, ◌≤◌, ◌<◌}
 use mathlib.Core.List.{List}
 use mathlib.Core.Path.{◌≡◌, refl, sym, ◌∙◌, ap}
 use native.Mathlib.Omega.{arith}
@@ -12,7 +12,7 @@ use Rattle.judging.specs.Reading.{ReadOf, good, bad, Shallow, raised, at_least}
 use Rattle.judging.specs.declared.read.Node.{Node}
 use Rattle.judging.specs.declared.read.Node.TheVariants.{Atom, Not, And, Next, Until, WeakNext, Eventually, Always, Malformed}
 use Rattle.judging.specs.declared.read.Read.{Read}
-use Rattle.judging.specs.declared.read.Read.TheVariants.{Good, Bad}
+use Rattle.std.specs.Prelude.{Option, Some, None}
 use Rattle.judging.proofs.Forms.{node, first, second, build, parts, number, number_of, atom_low, stands_node, known, stands_within, stands_one}
 use Rattle.judging.proofs.Forms.{stands_two, stands_end, depth_by, depth_below, Root}
 
@@ -52,13 +52,13 @@ module _ (b : List ℕ) (i : ℕ) where
   root_is : (f : Formula) (k : Node) → Stands b i f → Root b i k → node f ≡ k
   root_is f k s e = sym (stands_node b i f s) ∙ e.is
 
-  pub read_past : length b ≤ i → ReadOf b i Bad
+  pub read_past : length b ≤ i → ReadOf b i None
   read_past h = bad λ f s. omega (arith, stands_within b i f s)
 
-  pub read_malformed : Root b i Malformed → ReadOf b i Bad
+  pub read_malformed : Root b i Malformed → ReadOf b i None
   read_malformed e = bad λ f s. known f (sym e.is ∙ stands_node b i f s)
 
-  pub read_atom : Root b i Atom → ReadOf b i (Good (i + 1) 0)
+  pub read_atom : Root b i Atom → ReadOf b i (Some (record { end = i + 1; depth = 0 }))
   unfolding Stands nodes depth
   read_atom e = good (Formula.atom (byte_at b i)) (refl, atom_low (byte_at b i) e.is) refl refl
 
@@ -77,25 +77,24 @@ module _ (b : List ℕ) (i : ℕ) where
   build_one Always h e f s = (Formula.always f, (byte_is Always e, s), refl, refl)
   build_one Malformed h e f s = absurd (omega arith)
 
-  read_one_good : (k : Node) → parts k ≡ 1 → Root b i k → (e d : ℕ) → ReadOf b (i + 1) (Good e d)
-      → ReadOf b i (Good e (depth_by k d d))
-  read_one_good k h x e d (good f s p q) =
+  read_one_good : (k : Node) → parts k ≡ 1 → Root b i k → (r : Read) → ReadOf b (i + 1) (Some r)
+      → ReadOf b i (Some (record { end = r.end; depth = depth_by k r.depth r.depth }))
+  read_one_good k h x r (good f s p q) =
       let (g, z, n, m) = build_one k h x f s in
-      good {e = e} {d = depth_by k d d} g z (omega (arith, p, n)) (rw q (sym m))
+      good {r = record { end = r.end; depth = depth_by k r.depth r.depth }} g z (omega (arith, p, n)) (rw q (sym m))
 
-  read_one_bad : (k : Node) → parts k ≡ 1 → Root b i k → ReadOf b (i + 1) Bad → ReadOf b i Bad
+  pub read_one_bad : (k : Node) → parts k ≡ 1 → Root b i k → ReadOf b (i + 1) None → ReadOf b i None
   read_one_bad k h x (bad r) = bad λ f s. r (first f) (stands_one b i f s (ap parts (root_is f k s x) ∙ h)).0
 
   -- a root that adds nothing to the depth, and one that adds one
-  pub read_same : (k : Node) → parts k ≡ 1 → ((d : ℕ) → depth_by k d d ≡ d) → Root b i k → (r : Read) → ReadOf b (i + 1) r
+  pub read_same : (k : Node) → parts k ≡ 1 → ((d : ℕ) → depth_by k d d ≡ d) → Root b i k → (r : Option Read) → ReadOf b (i + 1) r
       → ReadOf b i r
-  read_same k h z x (Good e d) r = rw (z d) at (read_one_good k h x e d r)
-  read_same k h z x Bad r = read_one_bad k h x r
+  read_same k h z x (Some r) y = rw (z r.depth) at (read_one_good k h x r y)
+  read_same k h z x None y = read_one_bad k h x y
 
   pub read_deeper : (k : Node) → parts k ≡ 1 → ((d : ℕ) → depth_by k d d ≡ d + 1) → Root b i k → (r : Read)
-      → ReadOf b (i + 1) r → ReadOf b i (raised r)
-  read_deeper k h z x (Good e d) r = rw (z d) at (read_one_good k h x e d r)
-  read_deeper k h z x Bad r = read_one_bad k h x r
+      → ReadOf b (i + 1) (Some r) → ReadOf b i (Some (raised r))
+  read_deeper k h z x r y = rw (z r.depth) at (read_one_good k h x r y)
 
   -- ---- two parts
 
@@ -112,46 +111,35 @@ module _ (b : List ℕ) (i : ℕ) where
   build_two Always h e f g s r = absurd (omega arith)
   build_two Malformed h e f g s r = absurd (omega arith)
 
-  read_two_good : (k : Node) → parts k ≡ 2 → Root b i k → (e d a c : ℕ) → ReadOf b (i + 1) (Good e d) → ReadOf b e (Good a c)
-      → ReadOf b i (Good a (depth_by k d c))
-  read_two_good k h x e d a c (good f s p q) (good g r u v) =
-      let (y, z, n, m) = build_two k h x f g s (rw p at r) in
-      good {e = a} {d = depth_by k d c} y z (omega (arith, p, u, n)) (rw (q, v) (sym m))
+  read_two_good : (k : Node) → parts k ≡ 2 → Root b i k → (r w : Read) → ReadOf b (i + 1) (Some r) → ReadOf b r.end (Some w)
+      → ReadOf b i (Some (record { end = w.end; depth = depth_by k r.depth w.depth }))
+  read_two_good k h x r w (good f s p q) (good g z u v) =
+      let (y, j, n, m) = build_two k h x f g s (rw p at z) in
+      good {r = record { end = w.end; depth = depth_by k r.depth w.depth }} y j (omega (arith, p, u, n)) (rw (q, v) (sym m))
 
-  read_two_bad : (k : Node) → parts k ≡ 2 → Root b i k → (e d : ℕ) → ReadOf b (i + 1) (Good e d) → ReadOf b e Bad → ReadOf b i Bad
-  read_two_bad k h x e d (good f s p q) (bad r) = bad λ a z.
-      let (u, v, n) = stands_two b i a z (ap parts (root_is a k z x) ∙ h) in
-      r (second a) (rw (p, stands_unique b (i + 1) f (first a) s u) v)
+  -- the second part is none
+  pub read_second_bad : (k : Node) → parts k ≡ 2 → Root b i k → (r : Read) → ReadOf b (i + 1) (Some r) → ReadOf b r.end None → ReadOf b i None
+  read_second_bad k h x r (good f s p q) (bad n) = bad λ a z.
+      let (u, v, m) = stands_two b i a z (ap parts (root_is a k z x) ∙ h) in
+      n (second a) (rw (p, stands_unique b (i + 1) f (first a) s u) v)
 
-  pub read_first_bad : (k : Node) → parts k ≡ 2 → Root b i k → ReadOf b (i + 1) Bad → ReadOf b i Bad
+  pub read_first_bad : (k : Node) → parts k ≡ 2 → Root b i k → ReadOf b (i + 1) None → ReadOf b i None
   read_first_bad k h x (bad r) = bad λ f s. r (first f) (stands_two b i f s (ap parts (root_is f k s x) ∙ h)).0
 
-  pub read_and : Root b i And → (e d : ℕ) → ReadOf b (i + 1) (Good e d) → (r : Read) → ReadOf b e r → ReadOf b i (at_least d r)
-  read_and x e d s (Good a c) r = read_two_good And refl x e d a c s r
-  read_and x e d s Bad r = read_two_bad And refl x e d s r
+  pub read_and : Root b i And → (r w : Read) → ReadOf b (i + 1) (Some r) → ReadOf b r.end (Some w) → ReadOf b i (Some (at_least r.depth w))
+  read_and x r w s z = read_two_good And refl x r w s z
 
-  pub read_until : Root b i Until → (e d : ℕ) → ReadOf b (i + 1) (Good e d) → (r : Read) → ReadOf b e r
-      → ReadOf b i (raised (at_least d r))
-  read_until x e d s (Good a c) r = read_two_good Until refl x e d a c s r
-  read_until x e d s Bad r = read_two_bad Until refl x e d s r
+  pub read_until : Root b i Until → (r w : Read) → ReadOf b (i + 1) (Some r) → ReadOf b r.end (Some w)
+      → ReadOf b i (Some (raised (at_least r.depth w)))
+  read_until x r w s z = read_two_good Until refl x r w s z
 
 -- what was read goes on past its start and ends inside; its depth is below its end
-pub read_goes : (b : List ℕ) (i e d : ℕ) → ReadOf b i (Good e d) → (i < e) × (e ≤ length b) × (i + d < e)
-read_goes b i e d (good f s p q) = (omega (arith, depth_below f, p), omega (arith, stands_end b i f s, p), omega (arith, depth_below f, p, q))
+pub read_goes : (b : List ℕ) (i : ℕ) (r : Read) → ReadOf b i (Some r) → (i < r.end) × (r.end ≤ length b) × (i + r.depth < r.end)
+read_goes b i r (good f s p q) = (omega (arith, depth_below f, p), omega (arith, stands_end b i f s, p), omega (arith, depth_below f, p, q))
 
-pub read_shallow : (b : List ℕ) (i : ℕ) (r : Read) → ReadOf b i r → Shallow r
-read_shallow b i (Good e d) r = omega (arith, (read_goes b i e d r).2)
-read_shallow b i Bad r = tt
+pub read_shallow : (b : List ℕ) (i : ℕ) (r : Read) → ReadOf b i (Some r) → Shallow r
+read_shallow b i r x = omega (arith, (read_goes b i r x).2)
 
 -- the deeper of two parts is below the end too
-pub joined_shallow : (b : List ℕ) (i e d : ℕ) → ReadOf b i (Good e d) → (r : Read) → ReadOf b e r → Shallow (at_least d r)
-joined_shallow b i e d s (Good a c) r = omega (arith, (read_goes b i e d s).2, (read_goes b e a c r).0, (read_goes b e a c r).2)
-joined_shallow b i e d s Bad r = tt
-
--- ---- at least so deep
-
-pub least_more : (e d n : ℕ) → d < n → Good e n ≡ at_least n (Good e d)
-least_more e d n h = let z : n ≡ max n d = omega arith in ap (λ (x : ℕ). Good e x) z
-
-pub least_same : (e d n : ℕ) → n ≤ d → Good e d ≡ at_least n (Good e d)
-least_same e d n h = let z : d ≡ max n d = omega arith in ap (λ (x : ℕ). Good e x) z
+pub joined_shallow : (b : List ℕ) (i : ℕ) (r w : Read) → ReadOf b i (Some r) → ReadOf b r.end (Some w) → Shallow (at_least r.depth w)
+joined_shallow b i r w s x = omega (arith, (read_goes b i r s).2, (read_goes b r.end w x).0, (read_goes b r.end w x).2)

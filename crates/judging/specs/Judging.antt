@@ -1,8 +1,8 @@
 -- What judging a recorded run answers, on every formula and every trace: document 02, "Judge a recorded run".
-use Rattle.std.specs.Prelude.{ℕ, ◌≤◌, ◌<◌, List, length, get_or}
+use Rattle.std.specs.Prelude.{ℕ, ◌≤◌, ◌<◌, Bool, true, false, List, length, get_or, Result, Ok, Err}
 use Rattle.rules.specs.Formula.{Formula, Satisfies}
 use Rattle.judging.specs.Formulas.{Formed, depth}
-use Rattle.judging.specs.declared.run.Judged.{Judged}
+use Rattle.judging.specs.declared.run.JudgeError.{JudgeError}
 
 -- 1 to 64 labels
 pub record TraceFits (t : List ℕ) : Type 0 where
@@ -25,18 +25,17 @@ pub data Judging (b t : List ℕ) : ℕ → ℕ → Type 0 where
   no : {f : Formula} → TraceFits t → Formed b f → depth f ≤ 3 → LabelsFit t → (Satisfies t f → ⊥) → Judging b t 0 0
 
 -- The figures of an answer: the refusal's number, 0 for none, and 1 for yes.
-abbrev pub judged_refusal : Judged → ℕ
-judged_refusal Judged.Holds = 0
-judged_refusal Judged.HoldsNot = 0
-judged_refusal Judged.Trace = 19
-judged_refusal Judged.Formula = 20
-judged_refusal Judged.Deep = 21
-judged_refusal Judged.Letter = 22
+abbrev pub error_number : JudgeError → ℕ
+error_number JudgeError.Trace = 19
+error_number JudgeError.Formula = 20
+error_number JudgeError.Depth = 21
+error_number JudgeError.Letter = 22
 
-abbrev pub judged_holds : Judged → ℕ
-judged_holds Judged.Holds = 1
-judged_holds Judged.HoldsNot = 0
-judged_holds Judged.Trace = 0
-judged_holds Judged.Formula = 0
-judged_holds Judged.Deep = 0
-judged_holds Judged.Letter = 0
+abbrev pub judged_refusal : Result Bool JudgeError → ℕ
+judged_refusal (Ok x) = 0
+judged_refusal (Err why) = error_number why
+
+abbrev pub judged_holds : Result Bool JudgeError → ℕ
+judged_holds (Ok true) = 1
+judged_holds (Ok false) = 0
+judged_holds (Err why) = 0

@@ -4,7 +4,7 @@ ghost use Rattle.judging.specs.Nodes.{node_of};
 ghost use Rattle.judging.specs.Reading.{ReadOf, Shallow, raised, at_least};
 
 // What a byte of a formula says: an atom, one of the operators, or nothing.
-#[derive(Clone, Copy)]
+#[derive(Clone, Copy, Debug, PartialEq, Eq)]
 pub enum Node {
     Atom,
     Not,
@@ -17,11 +17,34 @@ pub enum Node {
     Malformed,
 }
 
-// Where a formula ends, and its depth; or that none stands there.
-#[derive(Clone, Copy)]
-pub enum Read {
-    Good { end: usize, depth: usize },
-    Bad,
+// Where a formula ends, and its depth.
+#[derive(Clone, Copy, Debug, PartialEq, Eq)]
+pub struct Read {
+    pub end: usize,
+    pub depth: usize,
+}
+
+impl Read {
+    // One deeper.
+    pub fn deeper(self) -> Read
+        requires { Shallow self }
+        ensures { result ≡ raised self }
+    {
+        Read {
+            end: self.end,
+            depth: self.depth + 1,
+        }
+    }
+
+    // At least so deep.
+    pub fn deep_as(self, least: usize) -> Read
+        ensures { result ≡ at_least least self }
+    {
+        Read {
+            end: self.end,
+            depth: self.depth.max(least),
+        }
+    }
 }
 
 pub fn node_of(b: u8) -> Node
@@ -42,60 +65,30 @@ pub fn node_of(b: u8) -> Node
     }
 }
 
-// One deeper.
-fn deeper(r: Read) -> Read
-    requires { Shallow r }
-    ensures { result ≡ raised r }
-{
-    match r {
-        Read::Good { end, depth } => Read::Good {
-            end,
-            depth: depth + 1,
-        },
-        Read::Bad => Read::Bad,
-    }
-}
-
-// At least so deep.
-fn deep_as(least: usize, r: Read) -> Read
-    ensures { result ≡ at_least least r }
-{
-    match r {
-        Read::Good { end, depth } => {
-            if depth < least {
-                return Read::Good { end, depth: least };
-            }
-            Read::Good { end, depth }
-        }
-        Read::Bad => Read::Bad,
-    }
-}
-
 // Reads the formula that stands at a byte: each of its parts is read in the same way, with fewer nodes left.
-pub fn read_formula(f: &[u8], at: usize) -> Read
+pub fn read_formula(f: &[u8], at: usize) -> Option<Read>
     ensures { ReadOf f.now at result }
 {
     if f.len() <= at {
-        return Read::Bad;
+        return None;
     }
     match node_of(f[at]) {
-        Node::Atom => Read::Good {
+        Node::Atom => Some(Read {
             end: at + 1,
             depth: 0,
-        },
-        Node::Not => read_formula(f, at + 1),
-        Node::And => match read_formula(f, at + 1) {
-            Read::Good { end, depth } => deep_as(depth, read_formula(f, end)),
-            Read::Bad => Read::Bad,
-        },
-        Node::Next => read_formula(f, at + 1),
-        Node::Until => match read_formula(f, at + 1) {
-            Read::Good { end, depth } => deeper(deep_as(depth, read_formula(f, end))),
-            Read::Bad => Read::Bad,
-        },
-        Node::WeakNext => read_formula(f, at + 1),
-        Node::Eventually => deeper(read_formula(f, at + 1)),
-        Node::Always => deeper(read_formula(f, at + 1)),
-        Node::Malformed => Read::Bad,
+        }),
+        Node::Not | Node::Next | Node::WeakNext => read_formula(f, at + 1),
+        Node::And => {
+            let first = read_formula(f, at + 1)?;
+            let second = read_formula(f, first.end)?;
+            Some(second.deep_as(first.depth))
+        }
+        Node::Until => {
+            let first = read_formula(f, at + 1)?;
+            let second = read_formula(f, first.end)?;
+            Some(second.deep_as(first.depth).deeper())
+        }
+        Node::Eventually | Node::Always => Some(read_formula(f, at + 1)?.deeper()),
+        Node::Malformed => None,
     }
 }

@@ -5,7 +5,7 @@ ghost use Rattle.judging.specs.Walking.{Ready, TwoReady, JudgedAt, BothAt, NextA
 use crate::read::Node;
 
 // Whether a formula holds, and where its bytes end: who judges the first of two parts learns so where the second one stands.
-#[derive(Clone, Copy)]
+#[derive(Clone, Copy, Debug, PartialEq, Eq)]
 pub struct Part {
     pub holds: bool,
     pub end: usize,

@@ -1,6 +1,6 @@
 -- `judge_read` meets its contract: each way through it gives the answer that is due.
 use mathlib.Core.Path.{sym, ◌∙◌}
-use Rattle.judging.proofs.Answers.{refuse_deep, refuse_label, ready, answer_yes, answer_no}
+use Rattle.judging.proofs.Answers.{refuse_deep, refuse_label, ready, answered}
 use Rattle.judging.proofs.run.judge_read.Goals as goal
 
 pub returns-then-depth-gt3 : goal.returns-then-depth-gt3
@@ -11,15 +11,10 @@ returns-then-not-labels_fit c =
     refuse_label c.requires c.if-depth-gt3.false
     (sym c.labels_fit.ensures ∙ c.if-not-labels_fit.true)
 
-pub judge-p-requires : goal.judge-p-requires
-judge-p-requires c = ready c.requires
-
-pub returns-then-p : goal.returns-then-p
-returns-then-p c =
-    answer_yes c.requires c.if-depth-gt3.false
-    (sym c.labels_fit.ensures ∙ c.if-not-labels_fit.false) _ c.judge-p.ensures c.if-p.true
+pub judge-requires : goal.judge-requires
+judge-requires c = ready c.requires
 
 pub returns : goal.returns
 returns c =
-    answer_no c.requires c.if-depth-gt3.false
-    (sym c.labels_fit.ensures ∙ c.if-not-labels_fit.false) _ c.judge-p.ensures c.if-p.false
+    answered c.requires c.if-depth-gt3.false
+    (sym c.labels_fit.ensures ∙ c.if-not-labels_fit.false) _ c.judge.ensures
