@@ -3,7 +3,7 @@ ghost use Rattle.std.specs.Prelude.{◌≤◌, length};
 ghost use Rattle.lines.specs.Names.{Lie};
 ghost use Rattle.phrases.specs.Tables.{Tables};
 
-use faults::fault::{Seen, say_no_key, say_word};
+use faults::fault::Report;
 use goal_lines::clause::clause_line;
 use goal_lines::row::row_line;
 use lines::names::find;
@@ -14,9 +14,7 @@ use phrases::start::{final_line, first_line, start_line};
 
 // A line whose first word before the colon is no key: a row of a goal's table, if it is a goal state.
 fn other_line(
-    out: &mut [u8],
-    seen: Seen,
-    line: u32,
+    report: &mut Report<'_>,
     key: &[u8],
     text: &[u8],
     at: usize,
@@ -24,23 +22,20 @@ fn other_line(
     f: usize,
     goals: &[usize],
     g: usize,
-) -> Seen
+)
     requires lie { (Lie text.now facts.now f) × (Lie text.now goals.now g) }
     requires at_in_bounds { at ≤ length text.now }
 {
-    if g <= find(text, goals, g, key) {
-        return say_no_key(out, seen, line, key, text, goals, g);
+    if find(text, goals, g, key).is_none() {
+        return report.tell_no_key(key, text, goals, g);
     }
-    let mut now = seen;
-    now.has_row = true;
-    row_line(out, now, line, text, at, facts, f, goals, g)
+    report.seen.has_row = true;
+    row_line(report, text, at, facts, f, goals, g);
 }
 
 // A line with a key that lists names.
 fn list_line(
-    out: &mut [u8],
-    seen: Seen,
-    line: u32,
+    report: &mut Report<'_>,
     key: &[u8],
     text: &[u8],
     at: usize,
@@ -52,27 +47,24 @@ fn list_line(
     f: usize,
     goals: &[usize],
     g: usize,
-) -> Seen
+)
     requires tables { Tables text.now states.now s actions.now a facts.now f goals.now g }
     requires at_in_bounds { at ≤ length text.now }
 {
     if is_same(key, b"states") {
-        return check_names(out, seen, line, b"of 512 states, ", text, at, states, s);
+        check_names(report, b"of 512 states, ", text, at, states, s);
+    } else if is_same(key, b"actions") {
+        check_names(report, b"of 16 actions, ", text, at, actions, a);
+    } else if is_same(key, b"facts") {
+        check_names(report, b"of 6 facts, ", text, at, facts, f);
+    } else {
+        check_names(report, b"of 32 goal states, ", text, at, goals, g);
     }
-    if is_same(key, b"actions") {
-        return check_names(out, seen, line, b"of 16 actions, ", text, at, actions, a);
-    }
-    if is_same(key, b"facts") {
-        return check_names(out, seen, line, b"of 6 facts, ", text, at, facts, f);
-    }
-    check_names(out, seen, line, b"of 32 goal states, ", text, at, goals, g)
 }
 
 // A line with a colon whose key lists no names: the start, where the goal starts and is met, the goal's heading, or a row.
 fn aim_line(
-    out: &mut [u8],
-    seen: Seen,
-    line: u32,
+    report: &mut Report<'_>,
     key: &[u8],
     text: &[u8],
     at: usize,
@@ -82,30 +74,26 @@ fn aim_line(
     f: usize,
     goals: &[usize],
     g: usize,
-) -> Seen
+)
     requires lie { (Lie text.now states.now s) × (Lie text.now facts.now f) × (Lie text.now goals.now g) }
     requires at_in_bounds { at ≤ length text.now }
 {
     if is_same(key, b"start") {
-        return start_line(out, seen, line, text, at, states, s);
+        start_line(report, text, at, states, s);
+    } else if is_same(key, b"first") {
+        first_line(report, text, at, goals, g);
+    } else if is_same(key, b"final") {
+        final_line(report, text, at, goals, g);
+    } else if is_same(key, b"goal") {
+        expect_end(report, text, at);
+    } else {
+        other_line(report, key, text, at, facts, f, goals, g);
     }
-    if is_same(key, b"first") {
-        return first_line(out, seen, line, text, at, goals, g);
-    }
-    if is_same(key, b"final") {
-        return final_line(out, seen, line, text, at, goals, g);
-    }
-    if is_same(key, b"goal") {
-        return expect_end(out, seen, line, text, at);
-    }
-    other_line(out, seen, line, key, text, at, facts, f, goals, g)
 }
 
 // A line with a key and a colon.
 fn key_line(
-    out: &mut [u8],
-    seen: Seen,
-    line: u32,
+    report: &mut Report<'_>,
     key: &[u8],
     text: &[u8],
     at: usize,
@@ -117,25 +105,22 @@ fn key_line(
     f: usize,
     goals: &[usize],
     g: usize,
-) -> Seen
+)
     requires tables { Tables text.now states.now s actions.now a facts.now f goals.now g }
     requires at_in_bounds { at ≤ length text.now }
 {
     if is_listed(b"states actions facts goal-states", key) {
-        return list_line(
-            out, seen, line, key, text, at, states, s, actions, a, facts, f, goals, g,
+        list_line(
+            report, key, text, at, states, s, actions, a, facts, f, goals, g,
         );
+    } else {
+        aim_line(report, key, text, at, states, s, facts, f, goals, g);
     }
-    aim_line(
-        out, seen, line, key, text, at, states, s, facts, f, goals, g,
-    )
 }
 
 // A line that says facts of a state, from after the word "is" on.
 fn fact_line(
-    out: &mut [u8],
-    seen: Seen,
-    line: u32,
+    report: &mut Report<'_>,
     one: &[u8],
     text: &[u8],
     at: usize,
@@ -143,38 +128,17 @@ fn fact_line(
     s: usize,
     facts: &[usize],
     f: usize,
-) -> Seen
+)
     requires lie { (Lie text.now states.now s) × (Lie text.now facts.now f) }
     requires at_in_bounds { at ≤ length text.now }
 {
-    let now = check_known(out, seen, line, b"state", b"", one, text, states, s);
-    check_list(out, now, line, b"fact", b"busy", b",", text, at, facts, f)
-}
-
-// The state and the action of a move.
-fn check_move(
-    out: &mut [u8],
-    seen: Seen,
-    line: u32,
-    one: &[u8],
-    two: &[u8],
-    text: &[u8],
-    states: &[usize],
-    s: usize,
-    actions: &[usize],
-    a: usize,
-) -> Seen
-    requires { (Lie text.now states.now s) × (Lie text.now actions.now a) }
-{
-    let now = check_known(out, seen, line, b"state", b"", one, text, states, s);
-    check_known(out, now, line, b"action", b"", two, text, actions, a)
+    check_known(report, b"state", b"", one, text, states, s);
+    check_list(report, b"fact", b"busy", b",", text, at, facts, f);
 }
 
 // A line that says moves, from after the arrow on.
 fn move_line(
-    out: &mut [u8],
-    seen: Seen,
-    line: u32,
+    report: &mut Report<'_>,
     one: &[u8],
     two: &[u8],
     text: &[u8],
@@ -183,19 +147,18 @@ fn move_line(
     s: usize,
     actions: &[usize],
     a: usize,
-) -> Seen
+)
     requires lie { (Lie text.now states.now s) × (Lie text.now actions.now a) }
     requires at_in_bounds { at ≤ length text.now }
 {
-    let now = check_move(out, seen, line, one, two, text, states, s, actions, a);
-    check_list(out, now, line, b"state", b"", b"|", text, at, states, s)
+    check_known(report, b"state", b"", one, text, states, s);
+    check_known(report, b"action", b"", two, text, actions, a);
+    check_list(report, b"state", b"", b"|", text, at, states, s);
 }
 
 // A line that has no colon and no "is" after its first word: a move or a clause.
 fn plain_line(
-    out: &mut [u8],
-    seen: Seen,
-    line: u32,
+    report: &mut Report<'_>,
     one: &[u8],
     two: &[u8],
     text: &[u8],
@@ -206,7 +169,7 @@ fn plain_line(
     a: usize,
     facts: &[usize],
     f: usize,
-) -> Seen
+)
     requires lie { (Lie text.now states.now s) × (Lie text.now actions.now a) × (Lie text.now facts.now f) }
     requires at_in_bounds { at ≤ length text.now }
 {
@@ -214,16 +177,15 @@ fn plain_line(
     let start = w.start;
     let end = w.end;
     if is_same(&text[start..end], b"->") {
-        return move_line(out, seen, line, one, two, text, end, states, s, actions, a);
+        move_line(report, one, two, text, end, states, s, actions, a);
+    } else {
+        clause_line(report, one, two, text, at, states, s, facts, f);
     }
-    clause_line(out, seen, line, one, two, text, at, states, s, facts, f)
 }
 
 // A line of two words or more, by these.
 fn line_of(
-    out: &mut [u8],
-    seen: Seen,
-    line: u32,
+    report: &mut Report<'_>,
     one: &[u8],
     two: &[u8],
     text: &[u8],
@@ -236,28 +198,24 @@ fn line_of(
     f: usize,
     goals: &[usize],
     g: usize,
-) -> Seen
+)
     requires tables { Tables text.now states.now s actions.now a facts.now f goals.now g }
     requires at_in_bounds { at ≤ length text.now }
 {
     if is_same(two, b":") {
-        return key_line(
-            out, seen, line, one, text, at, states, s, actions, a, facts, f, goals, g,
+        key_line(
+            report, one, text, at, states, s, actions, a, facts, f, goals, g,
         );
+    } else if is_same(two, b"is") {
+        fact_line(report, one, text, at, states, s, facts, f);
+    } else {
+        plain_line(report, one, two, text, at, states, s, actions, a, facts, f);
     }
-    if is_same(two, b"is") {
-        return fact_line(out, seen, line, one, text, at, states, s, facts, f);
-    }
-    plain_line(
-        out, seen, line, one, two, text, at, states, s, actions, a, facts, f,
-    )
 }
 
 // A line of a text.
 fn check_line(
-    out: &mut [u8],
-    seen: Seen,
-    line: u32,
+    report: &mut Report<'_>,
     text: &[u8],
     at: usize,
     states: &[usize],
@@ -268,7 +226,7 @@ fn check_line(
     f: usize,
     goals: &[usize],
     g: usize,
-) -> Seen
+)
     requires tables { Tables text.now states.now s actions.now a facts.now f goals.now g }
     requires at_in_bounds { at ≤ length text.now }
 {
@@ -276,46 +234,24 @@ fn check_line(
     let start = w.start;
     let end = w.end;
     if start == end {
-        return seen;
+        return;
     }
     let one = &text[start..end];
     let v = next_word(text, end);
     let from = v.start;
     let to = v.end;
     if from == to {
-        return say_word(out, seen, line, b"expected more after ", one, b"");
+        return report.tell_word(b"expected more after ", one, b"");
     }
+    let two = &text[from..to];
     line_of(
-        out,
-        seen,
-        line,
-        one,
-        &text[from..to],
-        text,
-        to,
-        states,
-        s,
-        actions,
-        a,
-        facts,
-        f,
-        goals,
-        g,
-    )
+        report, one, two, text, to, states, s, actions, a, facts, f, goals, g,
+    );
 }
 
-// The number after a line's.
-fn following(line: u32) -> u32 {
-    if line < 1000000 {
-        return line + 1;
-    }
-    line
-}
-
-// Every line of a text.
+/// Every line of a text.
 pub fn check_lines(
-    out: &mut [u8],
-    seen: Seen,
+    report: &mut Report<'_>,
     text: &[u8],
     states: &[usize],
     s: usize,
@@ -325,18 +261,13 @@ pub fn check_lines(
     f: usize,
     goals: &[usize],
     g: usize,
-) -> Seen
+)
     requires { Tables text.now states.now s actions.now a facts.now f goals.now g }
 {
-    let mut now = seen;
-    let mut line: u32 = 1;
     let mut at: usize = 0;
     while at <= text.len() {
-        now = check_line(
-            out, now, line, text, at, states, s, actions, a, facts, f, goals, g,
-        );
+        check_line(report, text, at, states, s, actions, a, facts, f, goals, g);
         at = next_line(text, at);
-        line = following(line);
+        report.next_line();
     }
-    now
 }

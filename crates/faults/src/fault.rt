@@ -1,11 +1,9 @@
 // Faults of a text, told in lines: the line's number, what is wrong, and the word at fault.
-ghost use Rattle.lines.specs.Names.{Lie};
+use text::Line;
 
-// What was seen of a text so far: how far its faults are told and how many more there are, and what its goal is made of.
-#[derive(Clone, Copy)]
+/// What was seen of a text so far: whether it says a start, and what its goal is made of.
+#[derive(Clone, Copy, Debug, PartialEq, Eq, Default)]
 pub struct Seen {
-    pub at: usize,
-    pub more: u32,
     pub has_start: bool,
     pub has_first: bool,
     pub has_final: bool,
@@ -13,200 +11,211 @@ pub struct Seen {
     pub has_row: bool,
 }
 
-// A byte of a word as it is shown: what is no plain letter is shown as a question mark.
-fn put_shown(out: &mut [u8], at: usize, byte: u8) -> usize {
-    if byte < 33 {
-        return text::put(out, at, b'?');
-    }
-    if 126 < byte {
-        return text::put(out, at, b'?');
-    }
-    text::put(out, at, byte)
+/// The faults of a text that were told, in a lent buffer, how many more there are, and what was seen up to the line that is looked at.
+#[derive(Drop)]
+pub struct Report<'a> {
+    pub told: Line<'a>,
+    pub number: u32,
+    pub more: u32,
+    pub seen: Seen,
 }
 
-// A word between quotes; of a long one its first 64 letters.
-fn put_quoted(out: &mut [u8], at: usize, word: &[u8]) -> usize {
-    let mut next = text::put(out, at, b'\'');
-    let mut i: usize = 0;
-    while i < word.len() {
-        if 64 <= i {
-            return text::put_word(out, next, b"..'");
+impl<'a> Report<'a> {
+    ghost use Rattle.std.specs.Prelude.{◌≡◌};
+
+    /// Nothing is told yet; the line that is looked at is the first.
+    pub fn new(told: &'a mut [u8]) -> Report<'a>
+        ensures none { (result.told.at ≡ 0) × (result.number ≡ 1) × (result.more ≡ 0) }
+        ensures same_buffer { result.told.bytes.ghost_name ≡ told.entry.ghost_name }
+    {
+        Report {
+            told: Line { bytes: told, at: 0 },
+            number: 1,
+            more: 0,
+            seen: Seen::default(),
         }
-        next = put_shown(out, next, word[i]);
-        i += 1;
     }
-    text::put(out, next, b'\'')
 }
 
-// Whether a fault more has no room.
-fn is_full(out: &[u8], at: usize) -> bool {
-    if out.len() < 512 {
-        return true;
+impl Report<'_> {
+    ghost use Rattle.std.specs.Prelude.{◌≡◌, false, ◌||◌, ltb};
+    ghost use Rattle.lines.specs.Names.{Lie};
+    ghost use Rattle.text.specs.Puts.{Puts};
+    ghost use Rattle.faults.specs.Telling.{is_full, one_more, Counts, line_number, fault_line, more_line};
+
+    /// Goes to the next line.
+    pub fn next_line(&mut self)
+        ensures { self.new.number ≡ one_more self.old.number }
+    {
+        self.number = self.number.saturating_add(1).min(1000000);
     }
-    out.len() - 512 < at
-}
 
-// One fault more that is only counted.
-fn count(seen: Seen) -> Seen {
-    let mut now = seen;
-    if now.more < 1000000 {
-        now.more = now.more + 1;
+    // Whether a fault more has no room.
+    fn is_full(&self) -> bool
+        ensures { result ≡ is_full self.now }
+    {
+        self.told.bytes.len().saturating_sub(self.told.at) < 512
     }
-    now
-}
 
-// The beginning of a fault's line: the number of the text's line.
-fn put_line(out: &mut [u8], at: usize, line: u32) -> usize {
-    let at = text::put_word(out, at, b"line ");
-    let at = text::put_number(out, at, line);
-    text::put_word(out, at, b": ")
-}
-
-// That a word names none of its kind.
-fn put_unknown(out: &mut [u8], at: usize, kind: &[u8], word: &[u8]) -> usize {
-    let at = text::put_word(out, at, b"no ");
-    let at = text::put_word(out, at, kind);
-    let at = text::put_word(out, at, b" is named ");
-    put_quoted(out, at, word)
-}
-
-// Tells a fault of no line.
-pub fn say(out: &mut [u8], seen: Seen, what: &[u8]) -> Seen {
-    if is_full(out, seen.at) {
-        return count(seen);
+    // One fault more that is only counted.
+    fn count(&mut self)
+        ensures as_told { self.new.told ≡ self.old.told }
+        ensures more { self.new.more ≡ one_more self.old.more }
+    {
+        self.more = self.more.saturating_add(1).min(1000000);
     }
-    let at = text::put_word(out, seen.at, what);
-    let mut now = seen;
-    now.at = text::put(out, at, b'\n');
-    now
+
+    // The beginning of a fault's line: the number of the text's line.
+    fn put_number(&mut self)
+        ensures number { Puts self.old.told (line_number self.old.number) self.new.told }
+        ensures more { self.new.more ≡ self.old.more }
+    {
+        self.told.put_word(b"line ");
+        self.told.put_number(self.number);
+        self.told.put_word(b": ");
+    }
+
+    // A word between quotes; of a long one its first 64 letters.
+    fn put_quoted(&mut self, word: &[u8])
+        ensures more { self.new.more ≡ self.old.more }
+        ensures same_buffer { self.new.told.bytes.ghost_name ≡ self.old.told.bytes.ghost_name }
+    {
+        self.told.put(b'\'');
+        for &byte in &word[..word.len().min(64)] {
+            self.told.put(shown(byte));
+        }
+        if 64 < word.len() {
+            self.told.put_word(b"..");
+        }
+        self.told.put(b'\'');
+    }
+
+    // The name that the word may stand for, if one is near.
+    fn put_near(&mut self, word: &[u8], text: &[u8], spans: &[usize], n: usize)
+        requires { Lie text.now spans.now n }
+        ensures more { self.new.more ≡ self.old.more }
+        ensures same_buffer { self.new.told.bytes.ghost_name ≡ self.old.told.bytes.ghost_name }
+    {
+        if let Some(name) = crate::near::nearest(text, spans, n, word) {
+            self.told.put_word(b"; did you mean ");
+            self.put_quoted(&text[spans[2 * name]..spans[2 * name + 1]]);
+            self.told.put(b'?');
+        }
+    }
+
+    /// Tells a fault of no line: that the text lacks something, or has too much of it.
+    pub fn tell_whole(&mut self, lack: &[u8])
+        ensures counted { Counts self.old self.new }
+    {
+        if self.is_full() {
+            return self.count();
+        }
+        self.told.put_word(lack);
+        self.told.put(b'\n');
+    }
+
+    /// Tells a fault of the line, at its end or of the whole of it.
+    pub fn tell(&mut self, what: &[u8])
+        ensures counted { Counts self.old self.new }
+        ensures told { is_full self.old ≡ false → Puts self.old.told (fault_line self.old.number what.now) self.new.told }
+    {
+        if self.is_full() {
+            return self.count();
+        }
+        self.put_number();
+        self.told.put_word(what);
+        self.told.put(b'\n');
+    }
+
+    /// Tells a fault of a word, between what stands before it and after it.
+    pub fn tell_word(&mut self, before: &[u8], word: &[u8], after: &[u8])
+        ensures counted { Counts self.old self.new }
+    {
+        if self.is_full() {
+            return self.count();
+        }
+        self.put_number();
+        self.told.put_word(before);
+        self.put_quoted(word);
+        self.told.put_word(after);
+        self.told.put(b'\n');
+    }
+
+    /// Tells that a word names none of its kind.
+    pub fn tell_unknown(&mut self, kind: &[u8], word: &[u8], text: &[u8], spans: &[usize], n: usize)
+        requires lie { Lie text.now spans.now n }
+        ensures counted { Counts self.old self.new }
+    {
+        if self.is_full() {
+            return self.count();
+        }
+        self.put_number();
+        self.told.put_word(b"no ");
+        self.told.put_word(kind);
+        self.told.put_word(b" is named ");
+        self.put_quoted(word);
+        self.put_near(word, text, spans, n);
+        self.told.put(b'\n');
+    }
+
+    // Tells that a word names no key, if a key of the list is near, and otherwise that it names no goal state.
+    fn tell_key_or(&mut self, word: &[u8], text: &[u8], goals: &[usize], g: usize, list: &[u8])
+        requires lie { Lie text.now goals.now g }
+        ensures counted { Counts self.old self.new }
+    {
+        let mut keys = [0usize; 16];
+        let k = lines::names::list(&mut keys, list, b"keys");
+        if crate::near::nearest(list, &keys, k, word).is_some() {
+            self.tell_unknown(b"key", word, list, &keys, k);
+        } else {
+            self.tell_unknown(b"goal state", word, text, goals, g);
+        }
+    }
+
+    /// Tells that a word before a colon names no goal state, or no key where only a key is near.
+    pub fn tell_no_key(&mut self, word: &[u8], text: &[u8], goals: &[usize], g: usize)
+        requires lie { Lie text.now goals.now g }
+        ensures counted { Counts self.old self.new }
+    {
+        if crate::near::nearest(text, goals, g, word).is_some() {
+            self.tell_unknown(b"goal state", word, text, goals, g);
+        } else {
+            self.tell_key_or(
+                word,
+                text,
+                goals,
+                g,
+                b"keys: states actions facts goal-states start first final goal",
+            );
+        }
+    }
+
+    /// Whether a fault was told or counted.
+    pub fn is_faulty(&self) -> bool
+        ensures { result ≡ (ltb 0 self.now.told.at || ltb 0 self.now.more) }
+    {
+        0 < self.told.at || 0 < self.more
+    }
+
+    /// Tells how many faults more there are, if any, and answers how many bytes are told.
+    pub fn finish(&mut self) -> usize
+        ensures more { Puts self.old.told (more_line self.old.more) self.new.told }
+        ensures end { result ≡ self.new.told.at }
+    {
+        if self.more == 0 {
+            return self.told.at;
+        }
+        self.told.put_word(b"and ");
+        self.told.put_number(self.more);
+        self.told.put_word(b" more\n");
+        self.told.at
+    }
 }
 
-// Tells a fault of a line, at its end or of the whole of it.
-pub fn say_line(out: &mut [u8], seen: Seen, line: u32, what: &[u8]) -> Seen {
-    if is_full(out, seen.at) {
-        return count(seen);
+// A byte of a word as it is shown: what is no plain letter is shown as a question mark.
+fn shown(byte: u8) -> u8 {
+    match byte {
+        33..=126 => byte,
+        _ => b'?',
     }
-    let at = put_line(out, seen.at, line);
-    let at = text::put_word(out, at, what);
-    let mut now = seen;
-    now.at = text::put(out, at, b'\n');
-    now
-}
-
-// Tells a fault of a word, between what stands before it and after it.
-pub fn say_word(
-    out: &mut [u8],
-    seen: Seen,
-    line: u32,
-    before: &[u8],
-    word: &[u8],
-    after: &[u8],
-) -> Seen {
-    if is_full(out, seen.at) {
-        return count(seen);
-    }
-    let at = put_line(out, seen.at, line);
-    let at = text::put_word(out, at, before);
-    let at = put_quoted(out, at, word);
-    let at = text::put_word(out, at, after);
-    let mut now = seen;
-    now.at = text::put(out, at, b'\n');
-    now
-}
-
-// The name that the word may stand for, if one is near.
-fn put_near(out: &mut [u8], at: usize, word: &[u8], text: &[u8], spans: &[usize], n: usize) -> usize
-    requires { Lie text.now spans.now n }
-{
-    let k = crate::near::nearest(text, spans, n, word);
-    if k < n {
-        let start = spans[2 * k];
-        let end = spans[2 * k + 1];
-        let at = text::put_word(out, at, b"; did you mean ");
-        let at = put_quoted(out, at, &text[start..end]);
-        return text::put(out, at, b'?');
-    }
-    at
-}
-
-// Tells that a word names none of its kind.
-pub fn say_unknown(
-    out: &mut [u8],
-    seen: Seen,
-    line: u32,
-    kind: &[u8],
-    word: &[u8],
-    text: &[u8],
-    spans: &[usize],
-    n: usize,
-) -> Seen
-    requires { Lie text.now spans.now n }
-{
-    if is_full(out, seen.at) {
-        return count(seen);
-    }
-    let at = put_line(out, seen.at, line);
-    let at = put_unknown(out, at, kind, word);
-    let at = put_near(out, at, word, text, spans, n);
-    let mut now = seen;
-    now.at = text::put(out, at, b'\n');
-    now
-}
-
-// Tells that a word names no key, if a key of the list is near, and otherwise that it names no goal state.
-fn say_key_or(
-    out: &mut [u8],
-    seen: Seen,
-    line: u32,
-    word: &[u8],
-    text: &[u8],
-    goals: &[usize],
-    g: usize,
-    list: &[u8],
-) -> Seen
-    requires { Lie text.now goals.now g }
-{
-    let mut keys = [0usize; 16];
-    let k = lines::names::list(&mut keys, list, b"keys");
-    if crate::near::nearest(list, &keys, k, word) < k {
-        return say_unknown(out, seen, line, b"key", word, list, &keys, k);
-    }
-    say_unknown(out, seen, line, b"goal state", word, text, goals, g)
-}
-
-// Tells that a word before a colon names no goal state, or no key where only a key is near.
-pub fn say_no_key(
-    out: &mut [u8],
-    seen: Seen,
-    line: u32,
-    word: &[u8],
-    text: &[u8],
-    goals: &[usize],
-    g: usize,
-) -> Seen
-    requires { Lie text.now goals.now g }
-{
-    if crate::near::nearest(text, goals, g, word) < g {
-        return say_unknown(out, seen, line, b"goal state", word, text, goals, g);
-    }
-    say_key_or(
-        out,
-        seen,
-        line,
-        word,
-        text,
-        goals,
-        g,
-        b"keys: states actions facts goal-states start first final goal",
-    )
-}
-
-// Tells how many faults more there are, if any.
-pub fn say_more(out: &mut [u8], seen: Seen) -> usize {
-    if seen.more == 0 {
-        return seen.at;
-    }
-    let at = text::put_word(out, seen.at, b"and ");
-    let at = text::put_number(out, at, seen.more);
-    text::put_word(out, at, b" more\n")
 }

@@ -1,22 +1,18 @@
 // The name that a misspelt word may stand for: the nearest of those that begin or end like it and leave two letters at most of either.
-ghost use Rattle.std.specs.Prelude.{◌+◌, ◌≤◌, ◌<◌, length};
+ghost use Rattle.std.specs.Prelude.{◌+◌, ◌≤◌, ◌<◌, length, IfSome};
 ghost use Rattle.lines.specs.Names.{Lie};
 
 // How many letters two words begin with alike.
 fn alike_front(a: &[u8], b: &[u8]) -> usize
     ensures { (result ≤ length a.now) × (result ≤ length b.now) }
 {
-    let mut p: usize = 0;
-    while p < a.len() {
-        if b.len() <= p {
-            return p;
-        }
+    let n = a.len().min(b.len());
+    for p in 0..n {
         if a[p] != b[p] {
             return p;
         }
-        p += 1;
     }
-    p
+    n
 }
 
 // How many letters two words end with alike, beside the p that they begin with.
@@ -24,40 +20,30 @@ fn alike_back(a: &[u8], b: &[u8], p: usize) -> usize
     requires { (p ≤ length a.now) × (p ≤ length b.now) }
     ensures { (p + result ≤ length a.now) × (p + result ≤ length b.now) }
 {
-    let mut q: usize = 0;
-    while q < a.len() - p {
-        if b.len() - p <= q {
-            return q;
-        }
+    let n = a.len().min(b.len()) - p;
+    for q in 0..n {
         if a[a.len() - 1 - q] != b[b.len() - 1 - q] {
             return q;
         }
-        q += 1;
     }
-    q
+    n
 }
 
-// How many letters two words leave of both together, beside those that they begin with alike and then those that they end with alike; 5 where
+// How many letters two words leave of both together, beside those that they begin with alike and then those that they end with alike; none where
 // they begin and end otherwise, or where one leaves more than two.
-fn apart(a: &[u8], b: &[u8]) -> usize {
+fn apart(a: &[u8], b: &[u8]) -> Option<usize> {
     let p = alike_front(a, b);
     let q = alike_back(a, b, p);
-    if p + q == 0 {
-        return 5;
-    }
     let x = a.len() - p - q;
-    if 2 < x {
-        return 5;
-    }
     let y = b.len() - p - q;
-    if 2 < y {
-        return 5;
+    if p + q == 0 || 2 < x || 2 < y {
+        return None;
     }
-    x + y
+    Some(x + y)
 }
 
 // How many letters name k of a table and the word leave.
-fn apart_name(text: &[u8], spans: &[usize], n: usize, k: usize, word: &[u8]) -> usize
+fn apart_name(text: &[u8], spans: &[usize], n: usize, k: usize, word: &[u8]) -> Option<usize>
     requires lie { Lie text.now spans.now n }
     requires k_lt_n { k < n }
 {
@@ -66,22 +52,19 @@ fn apart_name(text: &[u8], spans: &[usize], n: usize, k: usize, word: &[u8]) -> 
     apart(&text[start..end], word)
 }
 
-// The name of a table that leaves the fewest letters beside the word, the first of these; or how many names there are, where none is near.
-pub fn nearest(text: &[u8], spans: &[usize], n: usize, word: &[u8]) -> usize
+/// The name of a table that leaves the fewest letters beside the word, the first of these; none where no name is near.
+pub fn nearest(text: &[u8], spans: &[usize], n: usize, word: &[u8]) -> Option<usize>
     requires { Lie text.now spans.now n }
-    ensures { result ≤ n }
+    ensures { IfSome result (λ k. k < n) }
 {
-    let mut best = n;
+    let mut best = None;
     let mut least: usize = 5;
-    let mut k: usize = 0;
-    while k < n {
-        let left = apart_name(text, spans, n, k, word);
-        if left < least {
-            least = left;
-            best = k;
-            k += 1;
-        } else {
-            k += 1;
+    for k in 0..n {
+        if let Some(left) = apart_name(text, spans, n, k, word) {
+            if left < least {
+                least = left;
+                best = Some(k);
+            }
         }
     }
     best

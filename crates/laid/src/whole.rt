@@ -1,46 +1,36 @@
 // The bytes of a job, in the old form where it fits and in the tall one otherwise.
 ghost use Rattle.std.specs.Prelude.{◌≡◌, ◌||◌, ltb, ◌*◌, ◌≤◌, ◌<◌, length};
 
+use text::Line;
+
 // How many moves there are with those of byte k of the set, counted up to one more than a job may have.
 fn count_byte(moves: &[u8], k: usize, n: usize) -> usize
     requires { (length moves.now ≡ 524288) × (k < 524288) }
 {
-    let end = 8 * k + 8;
     let mut r = n;
-    let mut i = 8 * k;
-    while i < end {
+    for i in 8 * k..8 * k + 8 {
         if lines::numbers::has(moves, i) {
-            r = one_more(r);
+            r = r.saturating_add(1).min(8193);
         }
-        i += 1;
     }
     r
 }
 
-// How many moves the set has, counted up to one more than a job may have. Most bytes of the set are 0, and are passed over.
+/// How many moves the set has, counted up to one more than a job may have. Most bytes of the set are 0, and are passed over.
 pub fn count(moves: &[u8]) -> usize
     requires { length moves.now ≡ 524288 }
 {
     let mut n: usize = 0;
-    let mut k: usize = 0;
-    while k < 524288 {
+    for k in 0..524288 {
         if moves[k] != 0 {
             n = count_byte(moves, k, n);
         }
-        k += 1;
     }
     n
 }
 
-fn one_more(n: usize) -> usize {
-    if n < 8193 {
-        return n + 1;
-    }
-    n
-}
-
-// What a job is made of, in numbers.
-#[derive(Clone, Copy)]
+/// What a job is made of, in numbers.
+#[derive(Clone, Copy, Debug, PartialEq, Eq)]
 pub struct Sizes {
     pub tall: bool,
     pub states: usize,
@@ -53,91 +43,78 @@ pub struct Sizes {
     pub goal: usize,
 }
 
-fn put_byte(out: &mut [u8], at: usize, x: usize) -> usize {
-    text::put(out, at, (x % 256) as u8)
+fn put_byte(line: &mut Line<'_>, x: usize) {
+    line.put((x % 256) as u8);
 }
 
 // A number of two bytes, low byte first.
-fn put_two(out: &mut [u8], at: usize, x: usize) -> usize {
-    let at = put_byte(out, at, x);
-    put_byte(out, at, x / 256)
+fn put_two(line: &mut Line<'_>, x: usize) {
+    put_byte(line, x);
+    put_byte(line, x / 256);
 }
 
 // A number of one byte, or of two in the tall form.
-fn put_wide(out: &mut [u8], at: usize, tall: bool, x: usize) -> usize {
+fn put_wide(line: &mut Line<'_>, tall: bool, x: usize) {
+    put_byte(line, x);
     if tall {
-        return put_two(out, at, x);
+        put_byte(line, x / 256);
     }
-    put_byte(out, at, x)
 }
 
 // A body's place in the contents: where it begins, and how long it is.
-fn put_place(out: &mut [u8], at: usize, start: usize, size: usize) -> usize {
-    let at = put_two(out, at, start);
-    put_two(out, at, size)
+fn put_place(line: &mut Line<'_>, start: usize, size: usize) {
+    put_two(line, start);
+    put_two(line, size);
 }
 
 // The contents: the places of the four bodies.
-fn put_contents(out: &mut [u8], z: Sizes, counts: usize, moves: usize) -> usize
+fn put_contents(line: &mut Line<'_>, z: Sizes, counts: usize, moves: usize)
     requires { (counts ≤ 8) × (z.states ≤ 512) × (moves ≤ 40960) }
 {
     let second = 16 + counts;
     let third = second + z.states;
     let fourth = third + moves;
-    let at = put_place(out, 0, 16, counts);
-    let at = put_place(out, at, second, z.states);
-    let at = put_place(out, at, third, moves);
-    put_place(out, at, fourth, z.goal)
+    put_place(line, 16, counts);
+    put_place(line, second, z.states);
+    put_place(line, third, moves);
+    put_place(line, fourth, z.goal);
 }
 
-fn put_counts(out: &mut [u8], at: usize, z: Sizes) -> usize {
-    let at = put_wide(out, at, z.tall, z.states);
-    let at = put_byte(out, at, z.actions);
-    let at = put_byte(out, at, z.facts);
-    let at = put_byte(out, at, z.goals);
-    let at = put_wide(out, at, z.tall, z.start);
-    put_byte(out, at, z.first)
+fn put_counts(line: &mut Line<'_>, z: Sizes) {
+    put_wide(line, z.tall, z.states);
+    put_byte(line, z.actions);
+    put_byte(line, z.facts);
+    put_byte(line, z.goals);
+    put_wide(line, z.tall, z.start);
+    put_byte(line, z.first);
 }
 
-fn put_record(out: &mut [u8], at: usize, tall: bool, i: usize) -> usize {
-    let at = put_wide(out, at, tall, i / 8192);
-    let at = put_byte(out, at, i / 512 % 16);
-    put_wide(out, at, tall, i % 512)
+fn put_record(line: &mut Line<'_>, tall: bool, i: usize) {
+    put_wide(line, tall, i / 8192);
+    put_byte(line, i / 512 % 16);
+    put_wide(line, tall, i % 512);
 }
 
 // The records of the moves of byte k of the set, in ascending order.
-fn put_byte_records(out: &mut [u8], at: usize, tall: bool, moves: &[u8], k: usize) -> usize
+fn put_byte_records(line: &mut Line<'_>, tall: bool, moves: &[u8], k: usize)
     requires { (length moves.now ≡ 524288) × (k < 524288) }
 {
-    let end = 8 * k + 8;
-    let mut next = at;
-    let mut i = 8 * k;
-    while i < end {
+    for i in 8 * k..8 * k + 8 {
         if lines::numbers::has(moves, i) {
-            next = put_record(out, next, tall, i);
-            i += 1;
-        } else {
-            i += 1;
+            put_record(line, tall, i);
         }
     }
-    next
 }
 
 // The records of the moves, in ascending order.
-fn put_records(out: &mut [u8], at: usize, tall: bool, moves: &[u8]) -> usize
+fn put_records(line: &mut Line<'_>, tall: bool, moves: &[u8])
     requires { length moves.now ≡ 524288 }
 {
-    let mut next = at;
-    let mut k: usize = 0;
-    while k < 524288 {
+    for k in 0..524288 {
         if moves[k] != 0 {
-            next = put_byte_records(out, next, tall, moves, k);
-            k += 1;
-        } else {
-            k += 1;
+            put_byte_records(line, tall, moves, k);
         }
     }
-    next
 }
 
 // How many bytes the records of n moves have.
@@ -145,44 +122,33 @@ fn moves_size(tall: bool, n: usize) -> usize
     requires { n ≤ 8192 }
     ensures { result ≤ 40960 }
 {
-    if tall {
-        return 5 * n;
-    }
-    3 * n
+    if tall { 5 * n } else { 3 * n }
 }
 
 fn counts_size(tall: bool) -> usize
     ensures { result ≤ 8 }
 {
-    if tall {
-        return 8;
-    }
-    6
+    if tall { 8 } else { 6 }
 }
 
-// Whether a job of so many states and moves is tall.
+/// Whether a job of so many states and moves is tall.
 pub fn is_tall(states: usize, moves: usize) -> bool
     ensures { result ≡ (ltb 128 states || ltb 4096 moves) }
 {
-    if 128 < states {
-        return true;
-    }
-    4096 < moves
+    128 < states || 4096 < moves
 }
 
-// Writes a job and answers where it ends.
+/// Writes a job and answers where it ends.
 pub fn write(out: &mut [u8], z: Sizes, labels: &[u8], moves: &[u8], goal: &[u8]) -> usize
     requires states_bound { (z.states ≤ 512) × (length labels.now ≡ 512) × (z.moves ≤ 8192) }
     requires moves_len { (length moves.now ≡ 524288) × (z.goal ≤ length goal.now) }
 {
-    let s = z.states;
-    let n = z.goal;
-    let first = &labels[..s];
-    let last = &goal[..n];
     let size = moves_size(z.tall, z.moves);
-    let at = put_contents(out, z, counts_size(z.tall), size);
-    let at = put_counts(out, at, z);
-    let at = text::put_word(out, at, first);
-    let at = put_records(out, at, z.tall, moves);
-    text::put_word(out, at, last)
+    let mut line = Line { bytes: out, at: 0 };
+    put_contents(&mut line, z, counts_size(z.tall), size);
+    put_counts(&mut line, z);
+    line.put_word(&labels[..z.states]);
+    put_records(&mut line, z.tall, moves);
+    line.put_word(&goal[..z.goal]);
+    line.at
 }

@@ -1,11 +1,10 @@
 -- `list::check_list` meets its contract.
-use mathlib.Core.Path.{◌≡◌}
 use lib.ListN.{length}
 use Prim.Native.Nat.{◌-◌, ◌≤◌}
 use Rattle.phrases.proofs.list.check_list.Given as goal
 
 abbrev pub invariant-loop-i : goal.invariant-loop-i
-invariant-loop-i l = (l.i ≤ length l.text) × (length l.out ≡ length l.initial.out)
+invariant-loop-i l = l.i ≤ length l.text
 
 abbrev pub decreases-loop-i : goal.decreases-loop-i
 decreases-loop-i l = length l.text - l.i

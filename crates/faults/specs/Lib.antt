@@ -1,0 +1,2 @@
+-- What the promises of faults are said with.
+pub mod Telling
