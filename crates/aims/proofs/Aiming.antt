@@ -9,13 +9,14 @@ use lib.ListN.{length, take, drop}
 use lib.Seq.{take-append_seam}
 use Rattle.text.specs.PutText.{PutText}
 use Rattle.text.specs.Lines.{bytes}
-use Rattle.text.proofs.Putting.{put_none, put_then, put_whole}
+use Rattle.text.specs.Puts.{Puts}
+use Rattle.text.specs.declared.Line.{Line}
+use Rattle.text.proofs.Putting.{puts_none, puts_then, put_whole}
 use Rattle.lines.specs.Words.{words, lines, lines_from, part, same_word, NextWord, NextLine}
-use Rattle.lines.specs.Names.{colon, after_key, index_of, table}
-use Rattle.lines.specs.Says.{arrow, is}
+use Rattle.lines.specs.Names.{index_of, table}
 use Rattle.lines.proofs.Wording.{after_none, after_some, no_lines_from, lines_first}
 use Rattle.lines.proofs.Naming.{table_length}
-use Rattle.aims.specs.Aims.{named_first, given, AfterKey, three, begins, whenever_said, before_said}
+use Rattle.aims.specs.Aims.{named_first, given, AfterKey, three, whenever_said, before_said}
 use Rattle.aims.specs.Aims.{clause_of, no_clause, clause_said, clauses_said}
 
 -- ---- a name's number
@@ -32,15 +33,6 @@ index_few (x ∷ xs) w = go (same_word x w) refl (index_few xs w)
 -- a number that was found is at most that of the names
 pub found_few : (t sp w : List ℕ) (n : ℕ) {r : ℕ} → r ≡ index_of (table t sp n) w → r ≤ n
 found_few t sp w n {r} e = rw e (rw (table_length t sp 0 n) at (index_few (table t sp n) w))
-
--- ---- the first word after a key
-
-module _ (key t : List ℕ) (at : ℕ) where
-  pub no_word : (start : ℕ) → start ≤ length t → after_key key (words (drop at t)) ≡ [] → AfterKey key t at start start
-  no_word start h z = record { order = omega arith; inside = h; said = z ∙ rw (eq-eqb start start refl) }
-
-  pub first_word : {g s e : ℕ} → after_key key (words (drop at t)) ≡ words (drop g t) → NextWord t g s e → AfterKey key t at s e
-  first_word z n = record { order = n.order; inside = n.inside; said = z ∙ n.said }
 
 -- ---- what a line gives
 
@@ -60,11 +52,11 @@ given_end key names t at h = rw (no_lines_from t at h)
 
 -- ---- the same text put, and none
 
-pub put_same : {l m v w : List ℕ} {at p : ℕ} → w ≡ v → PutText l at v m p → PutText l at w m p
-put_same {l} {m} {at = at} {p} e x = subst (λ (y : List ℕ). PutText l at y m p) (sym e) x
+pub put_same : {l m : Line} {v w : List ℕ} → w ≡ v → Puts l v m → Puts l w m
+put_same {l} {m} e x = subst (λ (y : List ℕ). Puts l y m) (sym e) x
 
-pub put_nothing : (l : List ℕ) (at : ℕ) {w : List ℕ} → w ≡ [] → PutText l at w l at
-put_nothing l at e = put_same e (put_none l at)
+pub put_nothing : (l : Line) {w : List ℕ} → w ≡ [] → Puts l w l
+put_nothing l e = put_same e (puts_none l)
 
 -- Where the answer is less than the line has room for, the whole text was put.
 pub put_short : {l w m : List ℕ} {r : ℕ} → PutText l 0 w m r → r < length l → (take r m ≡ w) × (r ≡ length w)
@@ -131,26 +123,6 @@ module _ (facts : List (List ℕ)) (a b : List ℕ) (ws : List (List ℕ)) where
         unfolding clause_of
         of_none z = rw (x, y, v, z)
 
--- ---- a line that is no clause
-
-module _ (b : List ℕ) where
-  pub by_colon : (ws : List (List ℕ)) → same_word b colon ≡ true → true ≡ no_clause b ws
-  unfolding no_clause
-  by_colon ws z = rw z
-
-  pub by_is : (ws : List (List ℕ)) → same_word b colon ≡ false → same_word b is ≡ true → true ≡ no_clause b ws
-  unfolding no_clause
-  by_is ws y z = rw (y, z)
-
-  module _ {t : List ℕ} {at s e : ℕ} (y : same_word b colon ≡ false) (z : same_word b is ≡ false) (n : NextWord t at s e) where
-    pub by_end : s ≡ e → false ≡ no_clause b (words (drop at t))
-    unfolding no_clause begins
-    by_end q = rw (y, z, after_none n q)
-
-    pub by_arrow : (s ≡ e → ⊥) → same_word (part t s e) arrow ≡ no_clause b (words (drop at t))
-    unfolding no_clause begins
-    by_arrow q = rw (y, z, after_some n q)
-
 -- ---- the clause of a line
 
 module _ (facts : List (List ℕ)) {t : List ℕ} {at s e : ℕ} (n : NextWord t at s e) where
@@ -178,20 +150,19 @@ module _ (facts : List (List ℕ)) {t : List ℕ} {at s e : ℕ} (n : NextWord t
 
 -- ---- texts put one after the other
 
--- Putting the rest where the line stands now leaves it as putting all into the line from before does.
-pub record Puts (before now : List ℕ) (next : ℕ) (all rest : List ℕ) : Type 0 where
-  pub goes : (m : List ℕ) (q : ℕ) → PutText now next rest m q → PutText before 0 all m q
+-- Putting the rest on the line as it stands now leaves it as putting all on the line from before does.
+pub record Going (before now : Line) (all rest : List ℕ) : Type 0 where
+  pub goes : (after : Line) → Puts now rest after → Puts before all after
 
-pub puts_first : (l : List ℕ) {all rest : List ℕ} → all ≡ rest → Puts l l 0 all rest
-puts_first l e = record { goes = λ m q x. put_same e x }
+pub going_first : (l : Line) {all rest : List ℕ} → all ≡ rest → Going l l all rest
+going_first l e = record { goes = λ m x. put_same e x }
 
-module _ {before now all rest : List ℕ} {next : ℕ} (g : Puts before now next all rest) where
-  pub puts_more : {w after : List ℕ} {next' : ℕ} (rest' : List ℕ) → PutText now next w after next' → rest ≡ w ++ rest'
-      → Puts before after next' all rest'
-  puts_more rest' x e = record { goes = λ m q y. g.goes m q (put_same e (put_then x y)) }
+module _ {before now : Line} {all rest : List ℕ} (g : Going before now all rest) where
+  pub going_more : {w : List ℕ} {after : Line} (rest' : List ℕ) → Puts now w after → rest ≡ w ++ rest' → Going before after all rest'
+  going_more rest' x e = record { goes = λ m y. g.goes m (put_same e (puts_then x y)) }
 
-  pub puts_end : rest ≡ [] → PutText before 0 all now next
-  puts_end z = g.goes now next (put_nothing now next z)
+  pub going_end : rest ≡ [] → Puts before all now
+  going_end z = g.goes now (put_nothing now z)
 
 module _ (facts : List (List ℕ)) where
   pub clauses_first : (t : List ℕ) → clauses_said facts (lines t) ≡ clauses_said facts (lines_from t 0)

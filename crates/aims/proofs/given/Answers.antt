@@ -28,7 +28,10 @@ find-requires c = c.requires
 
 pub returns-then-start-end : goal.returns-then-start-end
 returns-then-start-end c =
-    c.find.ensures ∙ sym (c.loop-at.invariant.1 ∙ given_here _ _ c.after_key-w.ensures c.loop-at-test.true c.if-start-end.true)
+    record {
+      index = c.find.ensures.index ∙ sym (c.loop-at.invariant.1 ∙ given_here _ _ c.after_key-w.ensures c.loop-at-test.true c.if-start-end.true);
+      within = c.find.ensures.within;
+    }
 
 pub next_line-at-requires : goal.next_line-at-requires
 next_line-at-requires c = c.loop-at-test.true
@@ -44,4 +47,7 @@ loop-at-preserved c =
 pub returns : goal.returns
 returns c =
     let text = c.args.text.now in
-    sym (c.loop-at.invariant.1 ∙ (given_end _ _ text _ c.loop-at-test.false ∙ table_length _ _ 0 _))
+    record {
+      index = sym (c.loop-at.invariant.1 ∙ (given_end _ _ text _ c.loop-at-test.false ∙ table_length _ _ 0 _));
+      within = tt;
+    }

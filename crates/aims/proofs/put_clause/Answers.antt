@@ -11,28 +11,28 @@ returns-then-is_same c =
 pub returns-then-is_same-2 : goal.returns-then-is_same-2
 returns-then-is_same-2 c =
     let e1 = sym c.is_same.ensures ∙ c.if-is_same.false in
-    let e2 = sym c.is_same-2.ensures ∙ c.if-is_same-2.true in
+    let e2 = sym c.is_same-else-is_same.ensures ∙ c.if-is_same-2.true in
     put_same (of_never _ _ _ _ e1 e2) c.put_three-then-is_same-2.ensures
 
 pub returns-then-is_same-3 : goal.returns-then-is_same-3
 returns-then-is_same-3 c =
     let e1 = sym c.is_same.ensures ∙ c.if-is_same.false in
-    let e2 = sym c.is_same-2.ensures ∙ c.if-is_same-2.false in
-    let e3 = sym c.is_same-3.ensures ∙ c.if-is_same-3.true in
+    let e2 = sym c.is_same-else-is_same.ensures ∙ c.if-is_same-2.false in
+    let e3 = sym c.is_same-else-is_same-2.ensures ∙ c.if-is_same-3.true in
     put_same (of_whenever _ _ _ _ e1 e2 e3) c.put_whenever.ensures
 
 pub returns-then-is_same-4 : goal.returns-then-is_same-4
 returns-then-is_same-4 c =
     let e1 = sym c.is_same.ensures ∙ c.if-is_same.false in
-    let e2 = sym c.is_same-2.ensures ∙ c.if-is_same-2.false in
-    let e3 = sym c.is_same-3.ensures ∙ c.if-is_same-3.false in
-    let e4 = sym c.is_same-4.ensures ∙ c.if-is_same-4.true in
+    let e2 = sym c.is_same-else-is_same.ensures ∙ c.if-is_same-2.false in
+    let e3 = sym c.is_same-else-is_same-2.ensures ∙ c.if-is_same-3.false in
+    let e4 = sym c.is_same-else-is_same-3.ensures ∙ c.if-is_same-4.true in
     put_same (of_before _ _ _ _ e1 e2 e3 e4) c.put_before.ensures
 
-pub returns : goal.returns
-returns c =
+pub returns-else-is_same-4 : goal.returns-else-is_same-4
+returns-else-is_same-4 c =
     let e1 = sym c.is_same.ensures ∙ c.if-is_same.false in
-    let e2 = sym c.is_same-2.ensures ∙ c.if-is_same-2.false in
-    let e3 = sym c.is_same-3.ensures ∙ c.if-is_same-3.false in
-    let e4 = sym c.is_same-4.ensures ∙ c.if-is_same-4.false in
-    put_nothing _ _ (of_none _ _ _ _ e1 e2 e3 e4)
+    let e2 = sym c.is_same-else-is_same.ensures ∙ c.if-is_same-2.false in
+    let e3 = sym c.is_same-else-is_same-2.ensures ∙ c.if-is_same-3.false in
+    let e4 = sym c.is_same-else-is_same-3.ensures ∙ c.if-is_same-4.false in
+    put_nothing _ (of_none _ _ _ _ e1 e2 e3 e4)
