@@ -2,63 +2,52 @@
 ghost use Rattle.std.specs.Prelude.{◌≤◌, ◌<◌};
 ghost use Rattle.job.specs.Layout.{Fit};
 
+use crate::reach::{is_met, target};
 use game::entry::Entry;
 use job::layout::Layout;
+use rules::answer::Value;
 use telling::names::{put_name, put_place};
+use text::Line;
 
 // The beginning of a graph, with an arrow to the place of the start.
-pub fn put_begin(out: &mut [u8], start: usize) -> usize {
-    let at = text::put_word(
-        out,
-        0,
+pub fn put_begin(line: &mut Line<'_>, start: usize) {
+    line.put_word(
         b"digraph plan {\n  rankdir=LR;\n  node [fontname=\"sans-serif\", style=filled];\n",
     );
-    let at = text::put_word(
-        out,
-        at,
-        b"  edge [fontname=\"sans-serif\"];\n  start [shape=point];\n  start -> p",
-    );
-    let at = text::put_number(out, at, (start % 65536) as u32);
-    text::put_word(out, at, b" [penwidth=3];\n")
+    line.put_word(b"  edge [fontname=\"sans-serif\"];\n  start [shape=point];\n  start -> p");
+    line.put_number((start % 65536) as u32);
+    line.put_word(b" [penwidth=3];\n");
 }
 
 // The value of a place in words, with its number.
-fn put_value(out: &mut [u8], at: usize, e: Entry) -> usize {
-    if e.value == 0 {
-        return text::put_word(out, at, b"losing");
+fn put_value(line: &mut Line<'_>, e: Entry) {
+    match (Value::try_from(e.value), e.named()) {
+        (Ok(Value::Losing), _) => line.put_word(b"losing"),
+        (_, None) => line.put_word(b"met"),
+        (Ok(Value::Pending), _) => {
+            line.put_word(b"pending ");
+            line.put_number(u32::from(e.number));
+        }
+        _ => {
+            line.put_word(b"winning ");
+            line.put_number(u32::from(e.number));
+        }
     }
-    if e.action == 255 {
-        return text::put_word(out, at, b"met");
-    }
-    if e.value == 1 {
-        let at = text::put_word(out, at, b"pending ");
-        return text::put_number(out, at, e.number as u32);
-    }
-    let at = text::put_word(out, at, b"winning ");
-    text::put_number(out, at, e.number as u32)
 }
 
 // The shape and the colour of a value; where the goal is met the line is doubled.
-fn put_shape(out: &mut [u8], at: usize, e: Entry) -> usize {
-    if e.value == 0 {
-        return text::put_word(out, at, b"shape=octagon, fillcolor=lightpink];\n");
+fn put_shape(line: &mut Line<'_>, e: Entry) {
+    match (Value::try_from(e.value), e.named()) {
+        (Ok(Value::Losing), _) => line.put_word(b"shape=octagon, fillcolor=lightpink];\n"),
+        (Ok(Value::Pending), _) => line.put_word(b"shape=ellipse, fillcolor=khaki];\n"),
+        (_, None) => line.put_word(b"shape=box, peripheries=2, fillcolor=palegreen];\n"),
+        _ => line.put_word(b"shape=box, fillcolor=palegreen];\n"),
     }
-    if e.value == 1 {
-        return text::put_word(out, at, b"shape=ellipse, fillcolor=khaki];\n");
-    }
-    if e.action == 255 {
-        return text::put_word(
-            out,
-            at,
-            b"shape=box, peripheries=2, fillcolor=palegreen];\n",
-        );
-    }
-    text::put_word(out, at, b"shape=box, fillcolor=palegreen];\n")
 }
 
 // The beginning of the node of place i: its number, and the names of its state and its goal state.
 fn put_label(
-    out: &mut [u8],
+    line: &mut Line<'_>,
     text: &[u8],
     states: &[usize],
     phrases: &[u8],
@@ -66,24 +55,24 @@ fn put_label(
     i: usize,
     s: usize,
     q: usize,
-) -> usize {
-    let at = text::put_word(out, 0, b"  p");
-    let at = text::put_number(out, at, (i % 65536) as u32);
-    let at = text::put_word(out, at, b" [label=\"");
-    put_place(out, at, text, states, phrases, goals, s, q, b"\\n")
+) {
+    line.put_word(b"  p");
+    line.put_number((i % 65536) as u32);
+    line.put_word(b" [label=\"");
+    put_place(line, text, states, phrases, goals, s, q, b"\\n");
 }
 
 // The end of a node, by the entry of its place.
-fn put_entry(out: &mut [u8], at: usize, e: Entry) -> usize {
-    let at = text::put_word(out, at, b"\\n");
-    let at = put_value(out, at, e);
-    let at = text::put_word(out, at, b"\", ");
-    put_shape(out, at, e)
+fn put_entry(line: &mut Line<'_>, e: Entry) {
+    line.put_word(b"\\n");
+    put_value(line, e);
+    line.put_word(b"\", ");
+    put_shape(line, e);
 }
 
-// The node of place i.
+// The node of place i, or nothing where the plan has no such place.
 pub fn put_node(
-    out: &mut [u8],
+    line: &mut Line<'_>,
     text: &[u8],
     states: &[usize],
     phrases: &[u8],
@@ -91,59 +80,56 @@ pub fn put_node(
     l: Layout,
     plan: &[u8],
     i: usize,
-) -> usize
+)
     requires { 1 ≤ l.goals }
 {
-    if plan.len() / 4 <= i {
-        return 0;
+    if i < plan.len() / 4 {
+        let e = rules::entry::read_entry(plan, i);
+        put_label(
+            line,
+            text,
+            states,
+            phrases,
+            goals,
+            i,
+            i / l.goals,
+            i % l.goals,
+        );
+        put_entry(line, e);
     }
-    let at = put_label(
-        out,
-        text,
-        states,
-        phrases,
-        goals,
-        i,
-        i / l.goals,
-        i % l.goals,
-    );
-    put_entry(out, at, rules::entry::read_entry(plan, i))
 }
 
 // How an edge is drawn: heavy where the plan makes the move.
-fn put_weight(out: &mut [u8], at: usize, own: bool) -> usize {
+fn put_weight(line: &mut Line<'_>, own: bool) {
     if own {
-        return text::put_word(out, at, b"\", penwidth=3];\n");
+        line.put_word(b"\", penwidth=3];\n");
+    } else {
+        line.put_word(b"\", color=gray50, fontcolor=gray50, style=dashed];\n");
     }
-    text::put_word(
-        out,
-        at,
-        b"\", color=gray50, fontcolor=gray50, style=dashed];\n",
-    )
 }
 
 // The edge from one place to another by an action.
 fn put_edge(
-    out: &mut [u8],
+    line: &mut Line<'_>,
     text: &[u8],
     actions: &[usize],
     i: usize,
     j: usize,
     action: usize,
     own: bool,
-) -> usize {
-    let at = text::put_word(out, 0, b"  p");
-    let at = text::put_number(out, at, (i % 65536) as u32);
-    let at = text::put_word(out, at, b" -> p");
-    let at = text::put_number(out, at, (j % 65536) as u32);
-    let at = text::put_word(out, at, b" [label=\"");
-    let at = put_name(out, at, text, actions, action);
-    put_weight(out, at, own)
+) {
+    line.put_word(b"  p");
+    line.put_number((i % 65536) as u32);
+    line.put_word(b" -> p");
+    line.put_number((j % 65536) as u32);
+    line.put_word(b" [label=\"");
+    put_name(line, text, actions, action);
+    put_weight(line, own);
 }
 
 // The edge of record k from place i, or nothing where it is no move from there. Where the goal is met a run ends.
 pub fn put_move(
-    out: &mut [u8],
+    line: &mut Line<'_>,
     text: &[u8],
     actions: &[usize],
     job: &[u8],
@@ -151,29 +137,25 @@ pub fn put_move(
     plan: &[u8],
     i: usize,
     k: usize,
-) -> usize
+)
     requires fit { Fit job.now l }
     requires k_lt_records { k < l.records }
 {
     if plan.len() / 4 <= i {
-        return 0;
+        return;
     }
     let e = rules::entry::read_entry(plan, i);
-    if crate::reach::is_met(e) {
-        return 0;
-    }
     let m = job::ask::move_at(job, l, k);
-    if m.state as usize != i / l.goals {
-        return 0;
+    if is_met(e) || usize::from(m.state) != i / l.goals {
+        return;
     }
-    let t = crate::reach::target(job, l, i, k);
     put_edge(
-        out,
+        line,
         text,
         actions,
         i,
-        t,
-        m.action as usize,
+        target(job, l, i, k),
+        usize::from(m.action),
         m.action == e.action,
-    )
+    );
 }

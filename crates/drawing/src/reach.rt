@@ -7,37 +7,30 @@ ghost use Rattle.drawing.specs.Queue.{Grown};
 
 use game::entry::Entry;
 use job::layout::Layout;
-use rules::place::Move;
+use rules::answer::Value;
 use telling::range::of_state;
 
 // How many places a queue has room for.
 pub const ROOM: usize = 16384;
+
+// The moves by which places are reached: the plan's own, or every one.
+#[derive(Clone, Copy, Debug, PartialEq, Eq)]
+pub enum Moves {
+    Own,
+    All,
+}
 
 // Puts place i at the end of the queue, where it did not stand there before.
 fn enter(queue: &mut [u16], marks: &mut [u8], n: usize, i: usize) -> usize
     requires { n ≤ length queue.old }
     ensures { Grown n result queue.old queue.new }
 {
-    if queue.len() <= n {
-        return n;
-    }
-    if marks.len() <= i {
-        return n;
-    }
-    if marks[i] == 1 {
+    if queue.len() <= n || marks.len() <= i || marks[i] == 1 {
         return n;
     }
     marks[i] = 1;
     queue[n] = (i % 65536) as u16;
     n + 1
-}
-
-// Whether a record is of the action, or of any.
-fn leaves(m: Move, action: u8, any: bool) -> bool {
-    if any {
-        return true;
-    }
-    m.action == action
 }
 
 // The number of the place that record k enters from place i.
@@ -47,11 +40,11 @@ pub fn target(job: &[u8], l: Layout, i: usize, k: usize) -> usize
     ensures { result ≡ entry_number l.goals (entered (said job.now) (i % l.goals) ((said job.now).move k).outcome) }
 {
     let m = job::ask::move_at(job, l, k);
-    let p = job::ask::place_entered(job, l, i % l.goals, m.outcome as usize);
+    let p = job::ask::place_entered(job, l, i % l.goals, usize::from(m.outcome));
     p.entry_number(l.goals as u16)
 }
 
-// Puts what record k enters from place i at the end of the queue, if it is of the action, or of any.
+// Puts what record k enters from place i at the end of the queue, if it is of the action, or all moves are meant.
 fn enter_by(
     queue: &mut [u16],
     marks: &mut [u8],
@@ -61,7 +54,7 @@ fn enter_by(
     k: usize,
     i: usize,
     action: u8,
-    any: bool,
+    moves: Moves,
 ) -> usize
     requires n_in_bounds { n ≤ length queue.old }
     requires fit { Fit job.now l }
@@ -69,14 +62,14 @@ fn enter_by(
     ensures { Grown n result queue.old queue.new }
 {
     let m = job::ask::move_at(job, l, k);
-    if leaves(m, action, any) {
-        let t = target(job, l, i, k);
-        return enter(queue, marks, n, t);
+    if moves == Moves::All || m.action == action {
+        enter(queue, marks, n, target(job, l, i, k))
+    } else {
+        n
     }
-    n
 }
 
-// Puts all that can be entered from place i at the end of the queue, by the action or by any.
+// Puts all that can be entered from place i at the end of the queue, by the action or by all.
 fn enter_all(
     queue: &mut [u16],
     marks: &mut [u8],
@@ -85,29 +78,23 @@ fn enter_all(
     l: Layout,
     i: usize,
     action: u8,
-    any: bool,
+    moves: Moves,
 ) -> usize
     requires n_in_bounds { n ≤ length queue.old }
     requires fit { Fit job.now l }
     ensures { Grown n result queue.old queue.new }
 {
     let r = of_state(job, l, i / l.goals);
-    let to = r.to;
     let mut m = n;
-    let mut k = r.from;
-    while k < to {
-        m = enter_by(queue, marks, m, job, l, k, i, action, any);
-        k += 1;
+    for k in r.from..r.to {
+        m = enter_by(queue, marks, m, job, l, k, i, action, moves);
     }
     m
 }
 
 // Whether the goal is met at a place, by its entry: a run ends there.
 pub fn is_met(e: Entry) -> bool {
-    if e.value == 2 {
-        return e.action == 255;
-    }
-    false
+    Value::try_from(e.value) == Ok(Value::Winning) && e.named().is_none()
 }
 
 // Puts all that can be entered from place i at the end of the queue.
@@ -119,7 +106,7 @@ fn leave(
     l: Layout,
     plan: &[u8],
     i: usize,
-    any: bool,
+    moves: Moves,
 ) -> usize
     requires n_in_bounds { n ≤ length queue.old }
     requires fit { Fit job.now l }
@@ -132,7 +119,7 @@ fn leave(
     if is_met(e) {
         return n;
     }
-    enter_all(queue, marks, n, job, l, i, e.action, any)
+    enter_all(queue, marks, n, job, l, i, e.action, moves)
 }
 
 // Lists the places that a run can stand at, and answers how many these are.
@@ -142,7 +129,7 @@ pub fn reach(
     job: &[u8],
     l: Layout,
     plan: &[u8],
-    any: bool,
+    moves: Moves,
 ) -> usize
     requires { Fit job.now l }
     ensures { Grown 0 result queue.old queue.new }
@@ -150,10 +137,11 @@ pub fn reach(
     let p = job::ask::place_entered(job, l, l.first_goal, l.first);
     let start = p.entry_number(l.goals as u16);
     let mut n = enter(queue, marks, 0, start);
+    // no `for`, since n grows in the loop
     let mut k: usize = 0;
     while k < n {
-        let i = queue[k] as usize;
-        n = leave(queue, marks, n, job, l, plan, i, any);
+        let i = usize::from(queue[k]);
+        n = leave(queue, marks, n, job, l, plan, i, moves);
         k += 1;
     }
     n

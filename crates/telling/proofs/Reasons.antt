@@ -5,6 +5,8 @@ use mathlib.Core.List.{List, []}
 use mathlib.Core.Logic.{◌⊎◌, inl, inr, ⊎_elim}
 use mathlib.Core.Path.{◌≡◌, refl, sym, ap}
 use native.Mathlib.Omega.{arith}
+use Rattle.std.specs.declared.option.Option.{Option}
+use Rattle.std.specs.declared.option.Option.TheVariants.{Some, None}
 use Rattle.game.specs.Demands.{ValueTold}
 use Rattle.game.specs.Game.{Inside, Listed, Open, Winning, Losing}
 use Rattle.game.proofs.Following.{right_allowed}
@@ -22,7 +24,6 @@ use Rattle.rules.specs.declared.place.Place.{Place}
 use Rattle.rules.proofs.Arenas.{leads_iff, inside_iff, entered_inside, arena_lawful}
 use Rattle.rules.proofs.Followed as followed
 use Rattle.rules.proofs.Planned.{entry_of, planned_exactly, planned_right}
-use Rattle.job.specs.declared.ask.Found.{Found}
 use Rattle.telling.specs.Reason.{Reason, loses, hopes}
 use Rattle.telling.specs.Spoilt.{worth, spoils, is_spoilt, worst}
 use Rattle.telling.specs.Told.{told_spoiler, told_found, told_action}
@@ -40,11 +41,11 @@ closed_silent j p s q a states actions goals closed = go (worst j p s q a) refl
     none : (k : ℕ) → k < j.records → is_from (j.move k) s a ≡ true → ⊥
     none k h f = closed (entered j q (j.move k).outcome, (leads_iff j (place s q) _ a).1 (k, h, f, refl))
 
-    go : (r : Found) → worst j p s q a ≡ r → told_found j p q states actions goals r ≡ []
-    go (Found.At k) e =
+    go : (r : Option ℕ) → worst j p s q a ≡ r → told_found j p q states actions goals r ≡ []
+    go (Some k) e =
         let (h, o) = worst_spoils j p s q a k (sym e) in
         absurd (⊎_elim (λ t. none k h ((spoils_iff j p s q a 0 k).0 t).0) (λ t. none k h ((spoils_iff j p s q a 1 k).0 t.1).0) o)
-    go Found.Nothing e = refl
+    go None e = refl
 
 module _ {b before after : List ℕ} (done : Planning b before (only 0) after) {q : ℕ} (hq : q < (said b).goals) where
   keeps : Keeps b
@@ -71,7 +72,7 @@ module _ {b before after : List ℕ} (done : Planning b before (only 0) after) {
   module _ (s a : ℕ) where
     -- Every open action of a place that is not winning is told: some record spoils it.
     pub open_told : (Winning (arena (said b)) (place s q) → ⊥) → Open (arena (said b)) (place s q) a
-        → (k : ℕ) × (Found.At k ≡ worst (said b) after s q a)
+        → (k : ℕ) × (Some k ≡ worst (said b) after s q a)
     open_told lost some =
         worst_some (said b) after s q a
         (if_not_false (is_spoilt (said b) after s q a 1)
@@ -96,7 +97,7 @@ module _ {b before after : List ℕ} (done : Planning b before (only 0) after) {
         (k, ap (told_found (said b) after q states actions goals) (sym e))
 
     -- What is told is so: the record is an outcome of the action, and enters a place that is losing, or one that is pending where no outcome is.
-    pub told_so : (k : ℕ) → Found.At k ≡ worst (said b) after s q a → Reason (said b) s q a k (worth (said b) after q k)
+    pub told_so : (k : ℕ) → Some k ≡ worst (said b) after s q a → Reason (said b) s q a k (worth (said b) after q k)
     told_so k e = let (h, o) = worst_spoils (said b) after s q a k e in go h o
       where
         not_lost : is_spoilt (said b) after s q a 0 ≡ false → (i : ℕ) → i < (said b).records → is_from ((said b).move i) s a ≡ true

@@ -1,10 +1,9 @@
 -- What is told of a place: the line of its entry, and why it is not winning. Names are given by number.
-use Rattle.std.specs.Prelude.{ℕ, ◌/◌, ◌%◌, cond, List, [], ◌++◌, eqb}
+use Rattle.std.specs.Prelude.{ℕ, ◌/◌, ◌%◌, cond, List, [], ◌++◌, eqb, Option, Some, None}
 use Rattle.game.specs.Below.{upto, each}
 use Rattle.game.specs.declared.entry.Entry.{Entry}
 use Rattle.rules.specs.Job.{Job, entered}
 use Rattle.rules.specs.Plan.{entry}
-use Rattle.job.specs.declared.ask.Found.{Found}
 use Rattle.telling.specs.Lines.{comma, place_text, head_line, spoiler_line, lost_line}
 use Rattle.telling.specs.Spoilt.{worth, worst}
 
@@ -20,9 +19,9 @@ told_spoiler j p q k states actions goals =
     (worth j p q k)
 
 -- the same of a record that was found
-abbrev pub told_found : Job → List ℕ → ℕ → (ℕ → List ℕ) → (ℕ → List ℕ) → (ℕ → List ℕ) → Found → List ℕ
-told_found j p q states actions goals (Found.At k) = told_spoiler j p q k states actions goals
-told_found j p q states actions goals Found.Nothing = []
+abbrev pub told_found : Job → List ℕ → ℕ → (ℕ → List ℕ) → (ℕ → List ℕ) → (ℕ → List ℕ) → Option ℕ → List ℕ
+told_found j p q states actions goals (Some k) = told_spoiler j p q k states actions goals
+told_found j p q states actions goals None = []
 
 -- why action a is not sure at state s and goal state q, and nothing where no record spoils it; then that of the actions below n
 abbrev pub told_action : Job → List ℕ → ℕ → ℕ → (ℕ → List ℕ) → (ℕ → List ℕ) → (ℕ → List ℕ) → ℕ → List ℕ

@@ -9,7 +9,7 @@ use job::ask::count_before;
 use job::layout::Layout;
 
 // Records from one number up to another, which is not among them.
-#[derive(Clone, Copy)]
+#[derive(Clone, Copy, Debug, PartialEq, Eq)]
 pub struct Range {
     pub from: usize,
     pub to: usize,

@@ -1,22 +1,16 @@
 -- `names::put_name` meets its contract.
 use borrow.Author.Tests.{le-leb, lt-leb, lt-ltb, le-ltb}
-use Rattle.text.proofs.Putting.{put_none}
+use Rattle.text.proofs.Putting.{puts_none}
 use Rattle.telling.proofs.names.put_name.Goals as goal
+use Rattle.telling.proofs.names.put_name.Goals.{else-start-end-via-then-start-end+else-end-text, else-start-end-via-else-start-end}
 
-pub returns-then-spans-k : goal.returns-then-spans-k
-returns-then-spans-k c = rw (le-leb _ _ c.if-spans-k.true) (put_none _ _)
+pub returns-else-k-spans : goal.returns-else-k-spans
+returns-else-k-spans c = rw (le-leb _ _ c.if-k-spans.false) (puts_none _)
 
-pub returns-then-end-start : goal.returns-then-end-start
-returns-then-end-start c =
-    let f = lt-leb _ _ c.if-spans-k.false in
-    rw (f, lt-ltb _ _ c.if-end-start.true) (put_none _ _)
-
-pub returns-then-text-end : goal.returns-then-text-end
-returns-then-text-end c =
-    let f = lt-leb _ _ c.if-spans-k.false in
-    rw (f, le-ltb _ _ c.if-end-start.false, lt-ltb _ _ c.if-text-end.true) (put_none _ _)
-
-pub returns : goal.returns
-returns c =
-    let f = lt-leb _ _ c.if-spans-k.false in
-    rw (f, le-ltb _ _ c.if-end-start.false, le-ltb _ _ c.if-text-end.false) c.put_word.ensures
+pub returns-else-start-end : goal.returns-else-start-end
+returns-else-start-end c =
+    let f = lt-leb _ _ c.if-k-spans.true in
+    elim c.else-start-end.branch [
+      | else-start-end-via-then-start-end+else-end-text w ↦ rw (f, le-ltb _ _ w.if-start-end.true, lt-ltb _ _ w.if-end-text.false) (puts_none _)
+      | else-start-end-via-else-start-end w ↦ rw (f, lt-ltb _ _ w.if-start-end.false) (puts_none _)
+    ]

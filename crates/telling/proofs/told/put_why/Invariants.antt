@@ -1,15 +1,10 @@
 -- `told::put_why` meets its contract: a turn puts what is told of one more action.
-use Prim.Native.Nat.{◌≤◌, ◌-◌}
 use Rattle.rules.specs.Bytes.{said}
-use Rattle.text.specs.PutText.{PutText}
+use Rattle.text.specs.Puts.{Puts}
 use Rattle.telling.specs.Lines.{named}
 use Rattle.telling.specs.Told.{told_actions}
 use Rattle.telling.proofs.told.put_why.Given as goal
 
 abbrev pub invariant-loop-a : goal.invariant-loop-a
 invariant-loop-a l =
-    (l.a ≤ l.l.actions)
-    × PutText l.initial.out l.at (told_actions (said l.job) l.plan l.s l.q (named l.text l.states) (named l.text l.actions) (named l.phrases l.goals) l.a) l.out l.next
-
-abbrev pub decreases-loop-a : goal.decreases-loop-a
-decreases-loop-a l = 256 - l.a
+    Puts l.initial.line (told_actions (said l.job) l.plan l.s l.q (named l.text l.states) (named l.text l.actions) (named l.phrases l.goals) l.a) l.line

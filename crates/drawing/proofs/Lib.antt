@@ -1,2 +1,0 @@
--- What the proofs of drawing cite.
-pub mod Growing
