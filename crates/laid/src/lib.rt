@@ -2,4 +2,5 @@
 #![tactic(auto)]
 
 pub mod lack;
+mod moves;
 pub mod whole;

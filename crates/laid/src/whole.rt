@@ -1,32 +1,14 @@
 // The bytes of a job, in the old form where it fits and in the tall one otherwise.
 ghost use Rattle.std.specs.Prelude.{◌≡◌, ◌||◌, ltb, ◌*◌, ◌≤◌, ◌<◌, length};
 
+use crate::moves::Moves;
 use text::Line;
 
-// How many moves there are with those of byte k of the set, counted up to one more than a job may have.
-fn count_byte(moves: &[u8], k: usize, n: usize) -> usize
-    requires { (length moves.now ≡ 524288) × (k < 524288) }
-{
-    let mut r = n;
-    for i in 8 * k..8 * k + 8 {
-        if lines::numbers::has(moves, i) {
-            r = r.saturating_add(1).min(8193);
-        }
-    }
-    r
-}
-
-/// How many moves the set has, counted up to one more than a job may have. Most bytes of the set are 0, and are passed over.
+/// How many moves the set has, counted up to one more than a job may have.
 pub fn count(moves: &[u8]) -> usize
     requires { length moves.now ≡ 524288 }
 {
-    let mut n: usize = 0;
-    for k in 0..524288 {
-        if moves[k] != 0 {
-            n = count_byte(moves, k, n);
-        }
-    }
-    n
+    Moves::of(moves).take(8193).count()
 }
 
 /// What a job is made of, in numbers.
@@ -95,25 +77,12 @@ fn put_record(line: &mut Line<'_>, tall: bool, i: usize) {
     put_wide(line, tall, i % 512);
 }
 
-// The records of the moves of byte k of the set, in ascending order.
-fn put_byte_records(line: &mut Line<'_>, tall: bool, moves: &[u8], k: usize)
-    requires { (length moves.now ≡ 524288) × (k < 524288) }
-{
-    for i in 8 * k..8 * k + 8 {
-        if lines::numbers::has(moves, i) {
-            put_record(line, tall, i);
-        }
-    }
-}
-
 // The records of the moves, in ascending order.
 fn put_records(line: &mut Line<'_>, tall: bool, moves: &[u8])
     requires { length moves.now ≡ 524288 }
 {
-    for k in 0..524288 {
-        if moves[k] != 0 {
-            put_byte_records(line, tall, moves, k);
-        }
+    for i in Moves::of(moves) {
+        put_record(line, tall, i);
     }
 }
 

@@ -1,0 +1,44 @@
+// The moves of a set, one after the other.
+ghost use Rattle.std.specs.Prelude.{◌≡◌, length};
+
+/// The moves of a set from one on, in ascending order, each as the number that it has there. Most bytes of the set are 0, and are passed over.
+#[derive(Clone, Copy, Debug)]
+pub struct Moves<'a> {
+    set: &'a [u8],
+    at: usize,
+    ghost room: { length set.now ≡ 524288 },
+}
+
+impl<'a> Moves<'a> {
+    /// All moves of the set.
+    pub fn of(set: &'a [u8]) -> Moves<'a>
+        requires { length set.now ≡ 524288 }
+    {
+        Moves { set, at: 0 }
+    }
+}
+
+impl Iterator for Moves<'_> {
+    ghost use Rattle.std.specs.Prelude.{◌-◌};
+    ghost use Rattle.std.specs.Iterator.{at_most};
+
+    type Item = usize;
+
+    ghost remaining = { λ s. at_most (4194304 - s.at) };
+
+    fn next(&mut self) -> Option<usize> {
+        // not by one: where a byte is 0, its eight numbers are passed over at once
+        while self.at < 4194304 {
+            let i = self.at;
+            if self.set[i / 8] == 0 {
+                self.at = 8 * (i / 8 + 1);
+            } else {
+                self.at = i + 1;
+                if lines::numbers::has(self.set, i) {
+                    return Some(i);
+                }
+            }
+        }
+        None
+    }
+}
