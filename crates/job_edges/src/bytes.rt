@@ -7,19 +7,13 @@ pub fn plate(k: usize) -> u8 {
           \x02\0\x01\0\
           \0\0\x01\0\0\x03\x01\x01\x01\x01\x01\x02\x01\x02\0\x02\x02\0\
           \0\x01\0\x01\x01\x01\x02\x02\x02\x02\x02\x02\0\0\x01";
-    if k < 59 {
-        return bytes[k];
-    }
-    0
+    bytes.get(k).copied().unwrap_or(0)
 }
 
 // Bare, and zeros: its bodies lie at 16, 22, 23 and 23, and it ends at 25.
 pub fn bare(k: usize) -> u8 {
     let bytes = b"\x10\0\x06\0\x16\0\x01\0\x17\0\0\0\x17\0\x02\0\x01\x01\0\x01\0\0\0\0\0";
-    if k < 25 {
-        return bytes[k];
-    }
-    0
+    bytes.get(k).copied().unwrap_or(0)
 }
 
 // One plate in the tall form, and zeros: its bodies lie at 16, 24, 28 and 58, and it ends at 73.
@@ -29,19 +23,13 @@ pub fn tall_plate(k: usize) -> u8 {
           \x02\0\x01\0\
           \0\0\0\x01\0\0\0\0\x03\0\x01\0\x01\x01\0\x01\0\x01\x02\0\x01\0\x02\0\0\x02\0\x02\0\0\
           \0\x01\0\x01\x01\x01\x02\x02\x02\x02\x02\x02\0\0\x01";
-    if k < 73 {
-        return bytes[k];
-    }
-    0
+    bytes.get(k).copied().unwrap_or(0)
 }
 
 // Bare in the tall form, and zeros: its bodies lie at 16, 24, 25 and 25, and it ends at 27.
 pub fn tall_bare(k: usize) -> u8 {
     let bytes = b"\x10\0\x08\0\x18\0\x01\0\x19\0\0\0\x19\0\x02\0\x01\0\x01\0\x01\0\0\0\0\0\0";
-    if k < 27 {
-        return bytes[k];
-    }
-    0
+    bytes.get(k).copied().unwrap_or(0)
 }
 
 // Records in order: in record r action 0 leads from state r / 64 to state r % 64.

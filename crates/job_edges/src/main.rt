@@ -7,17 +7,21 @@ mod said;
 
 ghost use Rattle.std.specs.Prelude.{◌<◌, ◌≤◌, length};
 
-use job::layout::Reading;
 use made::make;
+use programs::input::read_up_to;
 use rules::answer::Refusal;
-use std::io::Read;
 
-// The answer to a line. One that says no job is told as well, so that no case is lost unseen.
-#[derive(Clone, Copy)]
-enum Answer {
-    Read,
+// Why a line gives no job that is read. A line that says no job is told as well, so that no case is lost unseen.
+#[derive(Clone, Copy, Debug, PartialEq, Eq)]
+enum Fault {
     Refused(Refusal),
     BadLine,
+}
+
+impl From<Refusal> for Fault {
+    fn from(why: Refusal) -> Fault {
+        Fault::Refused(why)
+    }
 }
 
 fn write(rt: &impl Print, text: &[u8]) {
@@ -34,31 +38,22 @@ fn say_refused(rt: &impl Print, why: Refusal) {
     }
 }
 
-fn say(rt: &impl Print, answer: Answer) {
+fn say(rt: &impl Print, answer: Result<(), Fault>) {
     match answer {
-        Answer::Read => write(rt, b" read\n"),
-        Answer::Refused(why) => say_refused(rt, why),
-        Answer::BadLine => write(rt, b" bad line\n"),
+        Ok(()) => write(rt, b" read\n"),
+        Err(Fault::Refused(why)) => say_refused(rt, why),
+        Err(Fault::BadLine) => write(rt, b" bad line\n"),
     }
 }
 
-fn read_job(job: &[u8]) -> Answer {
-    match job::accept::read(job) {
-        Reading::Refused(why) => Answer::Refused(why),
-        Reading::Job(_) => Answer::Read,
-    }
-}
-
-fn answer_to(words: &[u8]) -> Answer {
-    if words.len() == 0 {
-        return Answer::BadLine;
+fn answer_to(words: &[u8]) -> Result<(), Fault> {
+    if words.is_empty() {
+        return Err(Fault::BadLine);
     }
     let mut job = [0u8; 49152];
-    let n = make(&mut job, words);
-    if n > 49152 {
-        return Answer::BadLine;
-    }
-    read_job(&job[0..n])
+    let n = make(&mut job, words).ok_or(Fault::BadLine)?;
+    job::accept::read(&job[..n])?;
+    Ok(())
 }
 
 // Past the next such byte, or the text's end.
@@ -66,25 +61,17 @@ fn past(text: &[u8], from: usize, byte: u8) -> usize
     requires { from < length text.now }
     ensures { (from < result) × (result ≤ length text.now) }
 {
-    let mut i = from;
-    while i < text.len() {
-        if text[i] == byte {
-            return i + 1;
-        }
-        i += 1;
+    match text[from..].iter().position(|&b| b == byte) {
+        Some(k) => from + k + 1,
+        None => text.len(),
     }
-    i
 }
 
 // A name and a colon, and then words. A line that is empty or starts with # says nothing.
 fn line(rt: &impl Print, text: &[u8])
     requires { 0 < length text.now }
 {
-    let first = text[0];
-    if first == b'#' {
-        return;
-    }
-    if first == b'\n' {
+    if text[0] == b'#' || text[0] == b'\n' {
         return;
     }
     let words = past(text, 0, b':');
@@ -101,29 +88,12 @@ fn lines(rt: &impl Print, text: &[u8]) {
     }
 }
 
-// Reads until the buffer is full, the input ends or a read fails, and answers how many bytes stand at its beginning.
-fn read_full<R: Read>(input: &mut R, buffer: &mut [u8]) -> usize
-    ensures { result ≤ length buffer.new }
-{
-    let mut done: usize = 0;
-    while done < buffer.len() {
-        let Ok(n) = input.read(&mut buffer[done..]) else {
-            return done;
-        };
-        if n == 0 {
-            return done;
-        }
-        done += n;
-    }
-    done
-}
-
 // Where the text has no room left, lines may have been lost.
 fn main(rt: HostRuntime) {
     let mut text = [0u8; 16384];
-    let n = read_full(&mut rt.stdin(), &mut text);
+    let n = read_up_to(&mut rt.stdin(), &mut text);
     lines(&rt, &text[..n]);
     if n == 16384 {
-        say(&rt, Answer::BadLine);
+        say(&rt, Err(Fault::BadLine));
     }
 }

@@ -1,11 +1,7 @@
--- `make` is safe and ends: what is left of the words falls.
-use Prim.Native.Nat.{◌-◌, ◌≤◌}
-use mathlib.Core.Path.{◌≡◌}
-use lib.ListN.{length}
+-- `make` meets its contract: the words so far make a job that lies inside the buffer, or are at fault.
+use Rattle.std.proofs.Common.{◌≤◌, length}
+use Rattle.std.specs.Prelude.{IfSome}
 use Rattle.job_edges.proofs.made.make.Given as goal
 
-abbrev pub invariant-loop-i : goal.invariant-loop-i
-invariant-loop-i l = (length l.job ≡ length l.initial.job) × (l.i ≤ length l.words)
-
-abbrev pub decreases-loop-i : goal.decreases-loop-i
-decreases-loop-i l = length l.words - l.i
+abbrev pub invariant-loop-byte : goal.invariant-loop-byte
+invariant-loop-byte l = IfSome l.s.length (λ n. n ≤ length l.job)
