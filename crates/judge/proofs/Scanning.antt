@@ -14,19 +14,21 @@ use lib.Seq.{take_all, drop-cons, length-take-le, take-append_seam}
 use Rattle.std.specs.List.{slice_range}
 use Rattle.io.specs.Counts.{IsPrefixLen}
 use Rattle.game.proofs.Tests.{and_iff}
+use Rattle.text.specs.declared.Line.{Line}
 use Rattle.text.specs.PutText.{PutText}
-use Rattle.text.proofs.Putting.{put_none, put_then, put_length}
+use Rattle.text.specs.Puts.{Puts}
+use Rattle.text.proofs.Putting.{put_length, puts_none, puts_then}
 use Rattle.judge.specs.Lines.{digit, held, ended, grown, numbers_from, numbers, index_of, capped}
 
-pub record Scanned (line before : List ℕ) (i : ℕ) (out : List ℕ) (next : ℕ) (inside : Bool) (value : ℕ) : Type 0 where
+pub record Scanned (line : List ℕ) (before : Line) (i : ℕ) (out : Line) (inside : Bool) (value : ℕ) : Type 0 where
   pub word : List ℕ
   pub number : ℕ
-  pub put : PutText before 0 word out next
+  pub put : Puts before word out
   pub shown : value ≡ capped number
   pub left : word ++ map capped (numbers_from inside number (drop i line)) ≡ map capped (numbers line)
 
-pub scanned_none : (line before : List ℕ) → Scanned line before 0 before 0 false 0
-scanned_none line before = record { word = []; number = 0; put = put_none before 0; shown = refl; left = refl }
+pub scanned_none : (line : List ℕ) (before : Line) → Scanned line before 0 before false 0
+scanned_none line before = record { word = []; number = 0; put = puts_none before; shown = refl; left = refl }
 
 -- a number that is too large for a byte stays so
 capped_grown : (n c : ℕ) → capped (grown (capped n) c) ≡ capped (grown n c)
@@ -47,10 +49,10 @@ capped_ended inside n c = go (digit c)
     go true = refl
     go false = capped_held inside n
 
-module _ {line before out : List ℕ} {i next : ℕ} {inside : Bool} {value : ℕ} (s : Scanned line before i out next inside value) where
+module _ {line : List ℕ} {before out : Line} {i : ℕ} {inside : Bool} {value : ℕ} (s : Scanned line before i out inside value) where
   -- one byte more
-  pub scanned_more : {out' : List ℕ} {next' : ℕ} → i < length line → PutText out next (ended inside value (get_or line i 0)) out' next'
-      → Scanned line before (i + 1) out' next' (digit (get_or line i 0)) (capped (grown value (get_or line i 0)))
+  pub scanned_more : {out' : Line} → i < length line → Puts out (ended inside value (get_or line i 0)) out'
+      → Scanned line before (i + 1) out' (digit (get_or line i 0)) (capped (grown value (get_or line i 0)))
   unfolding numbers_from
   scanned_more h p =
       let c = get_or line i 0 in
@@ -63,20 +65,20 @@ module _ {line before out : List ℕ} {i next : ℕ} {inside : Bool} {value : �
       record {
         word = s.word ++ ended inside value c;
         number = grown n c;
-        put = put_then s.put p;
+        put = puts_then s.put p;
         shown = ap (λ (v : ℕ). capped (grown v c)) s.shown ∙ capped_grown n c;
         left = append_assoc s.word (ended inside value c) (map capped rest) ∙ ap (λ (w : List ℕ). s.word ++ w) (sym is) ∙ s.left;
       }
 
   -- the end of the line
-  pub scanned_all : {out' : List ℕ} {next' : ℕ} → length line ≤ i → PutText out next (held inside value) out' next'
-      → PutText before 0 (map capped (numbers line)) out' next'
+  pub scanned_all : {out' : Line} → length line ≤ i → Puts out (held inside value) out'
+      → Puts before (map capped (numbers line)) out'
   unfolding numbers_from
-  scanned_all {out'} {next'} h p =
+  scanned_all {out'} h p =
       let is : map capped (numbers_from inside s.number (drop i line)) ≡ held inside value =
       ap (λ (w : List ℕ). map capped (numbers_from inside s.number w)) (drop_of_length-le line h) ∙ capped_held inside s.number
       ∙ ap (held inside) (sym s.shown) in
-      subst (λ (w : List ℕ). PutText before 0 w out' next') (ap (λ (w : List ℕ). s.word ++ w) (sym is) ∙ s.left) (put_then s.put p)
+      subst (λ (w : List ℕ). Puts before w out') (ap (λ (w : List ℕ). s.word ++ w) (sym is) ∙ s.left) (puts_then s.put p)
 
 -- what is put at the beginning of a buffer is counted inside it, and is as much of the text as it has room for
 pub put_counts : {out w left : List ℕ} {n : ℕ} → PutText out 0 w left n → IsPrefixLen n left

@@ -9,12 +9,15 @@ use lib.Dec.{eqb}
 use lib.ListN.{length, take, drop, length-append, length-drop, drop_of_length-le}
 use Rattle.io.specs.Counts.{IsPrefixLen}
 use Rattle.game.proofs.Search.{clash}
+use Rattle.text.specs.declared.Line.{Line}
 use Rattle.text.specs.PutText.{PutText}
+use Rattle.text.specs.Puts.{Puts}
 use Rattle.text.specs.Lines.{decimal, bytes, line_of}
 use Rattle.text.proofs.Digits.{decimal_length}
 use Rattle.text.proofs.Lengths.{put_front}
-use Rattle.judging.specs.declared.run.Judged.{Judged}
-use Rattle.judging.specs.Judging.{judged_refusal, judged_holds, Judging, trace_bad, formula_bad, too_deep, label_bad, yes, no}
+use Rattle.std.specs.Prelude.{Result}
+use Rattle.judging.specs.declared.run.JudgeError.{JudgeError}
+use Rattle.judging.specs.Judging.{error_number, judged_refusal, judged_holds, Judging, trace_bad, formula_bad, too_deep, label_bad, yes, no}
 use Rattle.judging.proofs.Answers.{judging_unique}
 use Rattle.judge.specs.Lines.{is_list, numbers, index_of, first_line, after_line, capped}
 use Rattle.judge.specs.Tells.{input_room, figures_line, TellsLines, first_is_none, second_is_none, judged, Tells, too_long, more_lines, lines}
@@ -75,34 +78,42 @@ tells_short (too_long h) = omega arith
 tells_short (more_lines h m) = omega arith
 tells_short (lines h e x) = lines_short x
 
+-- what is refused has its number's line
+pub refused_line : (why : JudgeError) → figures_line (error_number why) 0 ≡ line_of (bytes "refused") (decimal (error_number why) ∷ [])
+refused_line JudgeError.Trace = refl
+refused_line JudgeError.Formula = refl
+refused_line JudgeError.Depth = refl
+refused_line JudgeError.Letter = refl
+
 -- So in a buffer of 64 bytes the first n are the text.
-pub told_whole : {b out left : List ℕ} {n : ℕ} → Told b out left n → 64 ≤ length out → IsPrefixLen n left × Tells b (take n left)
-told_whole {b} t room =
-    let (count, text) = put_front t.put (omega (arith, tells_short t.tells)) in (count, subst⁻¹ (Tells b) text t.tells)
+pub told_whole : {b out left : List ℕ} {n : ℕ} (text : List ℕ) → Tells b text → PutText out 0 text left n → 64 ≤ length out
+    → IsPrefixLen n left × Tells b (take n left)
+told_whole {b} text t put room =
+    let (count, is) = put_front put (omega (arith, tells_short t)) in (count, subst⁻¹ (Tells b) is t)
 
 -- ---- what is left in the buffer, by what was found
 
-module _ {v w out left : List ℕ} {n : ℕ} where
-  pub told_first : is_list v ≡ false → PutText out 0 (bytes "the first line is no list of numbers\n") left n → ToldLines v w out left n
+module _ {v w : List ℕ} {line after : Line} where
+  pub told_first : is_list v ≡ false → Puts line (bytes "the first line is no list of numbers\n") after → ToldLines v w line after
   told_first e put = record { text = bytes "the first line is no list of numbers\n"; tells = first_is_none e; put = put }
 
-  pub told_second : is_list v ≡ true → is_list w ≡ false → PutText out 0 (bytes "the second line is no list of numbers\n") left n
-      → ToldLines v w out left n
+  pub told_second : is_list v ≡ true → is_list w ≡ false → Puts line (bytes "the second line is no list of numbers\n") after
+      → ToldLines v w line after
   told_second e f put = record { text = bytes "the second line is no list of numbers\n"; tells = second_is_none e f; put = put }
 
   -- judged by the bytes that are kept of the numbers
-  pub told_judged : {fs fs' ts ts' : List ℕ} {k m : ℕ} (x : Judged) {r a : ℕ} → is_list v ≡ true → is_list w ≡ true
+  pub told_judged : {fs fs' ts ts' : List ℕ} {k m : ℕ} (x : Result Bool JudgeError) → is_list v ≡ true → is_list w ≡ true
       → PutText fs 0 (map capped (numbers v)) fs' k → length fs ≡ 65 → PutText ts 0 (map capped (numbers w)) ts' m → length ts ≡ 65
-      → Judging (take k fs') (take m ts') (judged_refusal x) (judged_holds x) → r ≡ judged_refusal x → a ≡ judged_holds x
-      → PutText out 0 (figures_line r a) left n → ToldLines v w out left n
-  told_judged {fs} {fs'} {ts} {ts'} {k} {m} x {r} {a} e f p l q o j re ae put =
+      → Judging (take k fs') (take m ts') (judged_refusal x) (judged_holds x)
+      → Puts line (figures_line (judged_refusal x) (judged_holds x)) after → ToldLines v w line after
+  told_judged {fs} {fs'} {ts} {ts'} {k} {m} x e f p l q o j put =
       let formula : take k fs' ≡ kept (numbers v) = put_kept p ∙ ap (λ (i : ℕ). take i (map capped (numbers v))) l in
       let trace : take m ts' ≡ kept (numbers w) = put_kept q ∙ ap (λ (i : ℕ). take i (map capped (numbers w))) o in
       let whole : Judging (numbers v) (numbers w) (judged_refusal x) (judged_holds x) = kept_judged (rw (formula, trace) at j) in
-      record { text = figures_line r a; tells = judged {r = r} {a = a} e f (rw (re, ae) whole); put = put }
+      record { text = figures_line (judged_refusal x) (judged_holds x); tells = judged e f whole; put = put }
 
 module _ (b : List ℕ) where
-  pub told_long : {out left : List ℕ} {n : ℕ} → input_room ≤ length b → PutText out 0 (bytes "the input is too long\n") left n → Told b out left n
+  pub told_long : {line after : Line} → input_room ≤ length b → Puts line (bytes "the input is too long\n") after → Told b line after
   told_long h put = record { text = bytes "the input is too long\n"; tells = too_long h; put = put }
 
   -- where the lines end: the first at e, what comes after it is `rest`, in which the second ends at s, and what comes after that begins at m
@@ -113,16 +124,16 @@ module _ (b : List ℕ) where
         let line : after_line b ≡ rest = ap (λ (i : ℕ). drop (suc i) b) (sym first) ∙ sym after in
         ap after_line line ∙ ap (λ (i : ℕ). drop (suc i) rest) (sym second) ∙ sym past
 
-    pub told_more : {out left : List ℕ} {n : ℕ} → m < length rest
-        → PutText out 0 (bytes "there are more than two lines\n") left n → Told b out left n
+    pub told_more : {line after : Line} → m < length rest
+        → Puts line (bytes "there are more than two lines\n") after → Told b line after
     told_more l put =
         record { text = bytes "there are more than two lines\n"; tells = more_lines h (λ z. some (sym third ∙ z)); put = put }
       where
         some : drop m rest ≢ []
         some z = let w : length (drop m rest) ≡ 0 = ap length z in omega (arith, length-drop m rest)
 
-    pub told_two : {out left : List ℕ} {n : ℕ} → length rest ≤ m
-        → ToldLines (take e b) (take s rest) out left n → Told b out left n
+    pub told_two : {line after : Line} → length rest ≤ m
+        → ToldLines (take e b) (take s rest) line after → Told b line after
     told_two l t =
         let line : rest ≡ after_line b = after ∙ ap (λ (i : ℕ). drop (suc i) b) first in
         let v : take e b ≡ first_line b = ap (λ (i : ℕ). take i b) first in

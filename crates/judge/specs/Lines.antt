@@ -1,5 +1,5 @@
 -- Lines of numbers: decimal numbers with blanks between them.
-use Rattle.std.specs.Prelude.{ℕ, suc, ◌+◌, ◌-◌, ◌*◌, min, Bool, false, cond, ◌&&◌, ◌||◌, List, [], ◌∷◌, ◌++◌, leb, eqb, length, get_or, take, drop}
+use Rattle.std.specs.Prelude.{ℕ, suc, ◌+◌, ◌-◌, ◌*◌, min, Bool, true, false, Option, Some, None, cond, ◌&&◌, ◌||◌, List, [], ◌∷◌, ◌++◌, leb, eqb, length, get_or, take, drop}
 use Rattle.std.specs.List.{position_or_len}
 use Rattle.game.specs.Below.{every_below}
 
@@ -17,6 +17,15 @@ is_list w = every_below (length w) (λ i. digit (get_or w i 0) || blank (get_or 
 -- the number that is being read when a line ends, if one is
 abbrev pub held : Bool → ℕ → List ℕ
 held inside n = cond inside (n ∷ []) []
+
+-- the number that is being read, as the program holds it: whether there is one, and which
+abbrev pub inside : Option ℕ → Bool
+inside None = false
+inside (Some n) = true
+
+abbrev pub value : Option ℕ → ℕ
+value None = 0
+value (Some n) = n
 
 -- a byte that is no digit ends it
 abbrev pub ended : Bool → ℕ → ℕ → List ℕ

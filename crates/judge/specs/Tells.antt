@@ -1,6 +1,7 @@
 -- What is printed of two lines of numbers, the formula's and the trace's: one line.
 use Rattle.std.specs.Prelude.{ℕ, ◌≤◌, ◌<◌, true, false, cond, List, [], ◌∷◌, ◌≢◌, ◌≡◌, eqb, length}
-use Rattle.text.specs.PutText.{PutText}
+use Rattle.text.specs.declared.Line.{Line}
+use Rattle.text.specs.Puts.{Puts}
 use Rattle.text.specs.Lines.{decimal, bytes, line_of}
 use Rattle.judging.specs.Judging.{Judging}
 use Rattle.judge.specs.Lines.{is_list, numbers, first_line, after_line}
@@ -26,13 +27,13 @@ pub data Tells (b : List ℕ) : List ℕ → Type 0 where
   lines : {text : List ℕ} → length b < input_room → after_line (after_line b) ≡ [] → TellsLines (first_line b) (first_line (after_line b)) text
       → Tells b text
 
--- such a text stands at the beginning of the buffer, which held `out` and then holds `left`
-pub record ToldLines (v w out left : List ℕ) (n : ℕ) : Type 0 where
+-- such a text is put in the line
+pub record ToldLines (v w : List ℕ) (line after : Line) : Type 0 where
   pub text : List ℕ
   pub tells : TellsLines v w text
-  pub put : PutText out 0 text left n
+  pub put : Puts line text after
 
-pub record Told (b out left : List ℕ) (n : ℕ) : Type 0 where
+pub record Told (b : List ℕ) (line after : Line) : Type 0 where
   pub text : List ℕ
   pub tells : Tells b text
-  pub put : PutText out 0 text left n
+  pub put : Puts line text after

@@ -1,9 +1,9 @@
 -- `put_figures` meets its contract: the words, one after another.
-use borrow.Author.Tests.{ne_eqb}
-use Rattle.text.proofs.Putting.{put_then}
+use Rattle.text.proofs.Putting.{puts_then}
+use Rattle.judge.proofs.Telling.{refused_line}
 use Rattle.judge.proofs.put_figures.Goals as goal
 
-pub returns-then-refusal-ne0 : goal.returns-then-refusal-ne0
-returns-then-refusal-ne0 c =
-    rw (ne_eqb _ 0 c.if-refusal-ne0.true)
-    (put_then c.put_word-at.ensures (put_then c.put_number-at.ensures c.put.ensures))
+pub returns-in-Err : goal.returns-in-Err
+returns-in-Err c =
+    rw (c.in-Err.is, refused_line c.in-Err.why)
+    (puts_then c.put_word-in-Err.ensures (puts_then (rw c.number.ensures at c.put_number.ensures) c.put.ensures))

@@ -15,5 +15,4 @@ pub returns : goal.returns
 returns c =
     told_judged c.judge_run-answer.result (sym c.is_list.ensures ∙ c.if-not-is_list.false)
     (sym c.is_list-2.ensures ∙ c.if-not-is_list-2.false) c.put_numbers-n.ensures.put_text refl
-    c.put_numbers-m.ensures.put_text refl c.judge_run-answer.ensures c.refusal.ensures c.holds.ensures
-    c.put_figures.ensures
+    c.put_numbers-m.ensures.put_text refl c.judge_run-answer.ensures c.put_figures.ensures
