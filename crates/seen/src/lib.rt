@@ -1,90 +1,56 @@
 // The goal states of a goal in clauses, told in words: what each clause has seen so far.
 #![tactic(auto)]
 
-ghost use Rattle.std.specs.Prelude.{◌≤◌, length};
+ghost use Rattle.std.specs.Prelude.{◌≤◌, length, IfSome};
 ghost use Rattle.seen.specs.Kept.{Inside};
 
-use lines::word::{is_same, next_line, next_word};
+use lines::word::{Word, is_same, next_line, next_word};
+use text::Line;
 
-// A clause of a text: its kind, 4 where a line has none, and where its two facts stand.
-#[derive(Clone, Copy)]
+// The word by which a line says a clause.
+#[derive(Clone, Copy, Debug, PartialEq, Eq)]
+enum Kind {
+    Eventually,
+    Never,
+    Whenever,
+    Before,
+}
+
+// A clause of a text: its kind, and where its two facts stand, or its one fact twice.
+#[derive(Clone, Copy, Debug, PartialEq, Eq)]
 struct Clause {
-    kind: u8,
-    start: usize,
-    end: usize,
-    from: usize,
-    to: usize,
+    kind: Kind,
+    one: Word,
+    other: Word,
 }
 
-// The clause that a line says.
-fn clause_at(text: &[u8], at: usize) -> Clause
+// The clause that a line says, if it says one.
+fn clause_at(text: &[u8], at: usize) -> Option<Clause>
     requires { at ≤ length text.now }
-    ensures { Inside (length text.now) result.start result.end result.from result.to }
+    ensures { IfSome result (λ c. Inside (length text.now) c.one.start c.one.end c.other.start c.other.end) }
 {
-    let one = next_word(text, at);
-    let start = one.start;
-    let end = one.end;
-    let two = next_word(text, end);
-    let start2 = two.start;
-    let end2 = two.end;
-    let three = next_word(text, end2);
-    let start3 = three.start;
-    let end3 = three.end;
-    let four = next_word(text, end3);
-    if is_same(&text[start..end], b"eventually") {
-        return Clause {
-            kind: 0,
-            start: start2,
-            end: end2,
-            from: start2,
-            to: end2,
-        };
-    }
-    if is_same(&text[start..end], b"never") {
-        return Clause {
-            kind: 1,
-            start: start2,
-            end: end2,
-            from: start2,
-            to: end2,
-        };
-    }
-    if is_same(&text[start..end], b"whenever") {
-        return Clause {
-            kind: 2,
-            start: start2,
-            end: end2,
-            from: four.start,
-            to: four.end,
-        };
-    }
-    if is_same(&text[start2..end2], b"before") {
-        return Clause {
-            kind: 3,
-            start,
-            end,
-            from: start3,
-            to: end3,
-        };
-    }
-    Clause {
-        kind: 4,
-        start,
-        end,
-        from: start,
-        to: end,
-    }
+    let first = next_word(text, at);
+    let second = next_word(text, first.end);
+    let third = next_word(text, second.end);
+    let fourth = next_word(text, third.end);
+    let key = &text[first.start..first.end];
+    let (kind, one, other) = if is_same(key, b"eventually") {
+        (Kind::Eventually, second, second)
+    } else if is_same(key, b"never") {
+        (Kind::Never, second, second)
+    } else if is_same(key, b"whenever") {
+        (Kind::Whenever, second, fourth)
+    } else if is_same(&text[second.start..second.end], b"before") {
+        (Kind::Before, first, third)
+    } else {
+        return None;
+    };
+    Some(Clause { kind, one, other })
 }
 
-// How many clauses there are after a line with a clause of this kind.
-fn one_more(n: usize, kind: u8) -> usize {
-    if kind == 4 {
-        return n;
-    }
-    if n < 3 {
-        return n + 1;
-    }
-    n
+// One clause more: a goal has three at most.
+fn one_more(n: usize) -> usize {
+    n.saturating_add(1).min(3)
 }
 
 // How many clauses a text has.
@@ -92,129 +58,84 @@ pub fn count(text: &[u8]) -> usize {
     let mut n: usize = 0;
     let mut at: usize = 0;
     while at <= text.len() {
-        let c = clause_at(text, at);
-        n = one_more(n, c.kind);
+        if clause_at(text, at).is_some() {
+            n = one_more(n);
+        }
         at = next_line(text, at);
     }
     n
 }
 
 // A word before a fact, the fact, and a word after it.
-fn put_around(out: &mut [u8], at: usize, before: &[u8], fact: &[u8], after: &[u8]) -> usize {
-    let at = text::put_word(out, at, before);
-    let at = text::put_word(out, at, fact);
-    text::put_word(out, at, after)
+fn put_around(line: &mut Line<'_>, before: &[u8], fact: &[u8], after: &[u8]) {
+    line.put_word(before);
+    line.put_word(fact);
+    line.put_word(after);
 }
 
 // What a clause has seen so far, by its goal state.
-fn put_seen(out: &mut [u8], at: usize, kind: u8, one: &[u8], other: &[u8], q: usize) -> usize {
-    if kind == 0 {
-        if q == 0 {
-            return put_around(out, at, b"not yet ", one, b"");
-        }
-        return put_around(out, at, b"", one, b" seen");
+fn put_seen(line: &mut Line<'_>, kind: Kind, one: &[u8], other: &[u8], q: usize) {
+    match (kind, q) {
+        (Kind::Eventually, 0) => put_around(line, b"not yet ", one, b""),
+        (Kind::Eventually, _) => put_around(line, b"", one, b" seen"),
+        (Kind::Never, 0) => put_around(line, b"never ", one, b" so far"),
+        (Kind::Never, _) => put_around(line, b"broken by ", one, b""),
+        (Kind::Whenever, 0) => put_around(line, b"no ", other, b" owed"),
+        (Kind::Whenever, _) => put_around(line, b"", other, b" owed"),
+        (Kind::Before, 0) => put_around(line, b"before ", one, b""),
+        (Kind::Before, 1) => put_around(line, b"", one, b" seen"),
+        (Kind::Before, _) => put_around(line, b"", other, b" came too soon"),
     }
-    if kind == 1 {
-        if q == 0 {
-            return put_around(out, at, b"never ", one, b" so far");
-        }
-        return put_around(out, at, b"broken by ", one, b"");
-    }
-    if kind == 2 {
-        if q == 0 {
-            return put_around(out, at, b"no ", other, b" owed");
-        }
-        return put_around(out, at, b"", other, b" owed");
-    }
-    if q == 0 {
-        return put_around(out, at, b"before ", one, b"");
-    }
-    if q == 1 {
-        return put_around(out, at, b"", one, b" seen");
-    }
-    put_around(out, at, b"", other, b" came too soon")
 }
 
-// A comma, but not at the beginning.
-fn put_comma(out: &mut [u8], at: usize, first: usize) -> usize {
-    if at == first {
-        return at;
+// The goal state that a clause is in where all n of them are in goal state q, by how many clauses come before it; none where it is one too many.
+fn goal_of_clause(q: usize, n: usize, before: usize) -> Option<usize> {
+    match n.saturating_sub(before) {
+        0 => None,
+        1 => Some(q % 3),
+        2 => Some(q / 3 % 3),
+        _ => Some(q / 9 % 3),
     }
-    text::put_word(out, at, b", ")
 }
 
-// What the clause of a line has seen so far, in goal state q of all clauses, where it has the weight w; nothing where the line has no clause.
-fn put_line(
-    out: &mut [u8],
-    first: usize,
-    at: usize,
-    text: &[u8],
-    line: usize,
-    q: usize,
-    w: usize,
-) -> usize
-    requires { line ≤ length text.now }
+// What a clause has seen so far in its goal state q, after a comma where it is not the first in the line from a position on.
+fn put_clause(line: &mut Line<'_>, first: usize, text: &[u8], c: Clause, q: usize)
+    requires { Inside (length text.now) c.one.start c.one.end c.other.start c.other.end }
 {
-    let c = clause_at(text, line);
-    let kind = c.kind;
-    let start = c.start;
-    let end = c.end;
-    let from = c.from;
-    let to = c.to;
-    if kind == 4 {
-        return at;
+    if line.at != first {
+        line.put_word(b", ");
     }
-    if w == 0 {
-        return at;
-    }
-    let at = put_comma(out, at, first);
-    put_seen(out, at, kind, &text[start..end], &text[from..to], q / w % 3)
-}
-
-// The weight of a clause in the number of a goal state, by how many clauses come after it.
-fn weight(n: usize, before: usize) -> usize {
-    if n <= before {
-        return 0;
-    }
-    match n - before {
-        1 => 1,
-        2 => 3,
-        _ => 9,
-    }
+    let one = &text[c.one.start..c.one.end];
+    let other = &text[c.other.start..c.other.end];
+    put_seen(line, c.kind, one, other, q);
 }
 
 // The goal state q of the n clauses of a text.
-pub fn put_goal(out: &mut [u8], at: usize, text: &[u8], n: usize, q: usize) -> usize {
-    let mut next = at;
+pub fn put_goal(line: &mut Line<'_>, text: &[u8], n: usize, q: usize) {
+    let first = line.at;
     let mut k: usize = 0;
-    let mut line: usize = 0;
-    while line <= text.len() {
-        next = put_line(out, at, next, text, line, q, weight(n, k));
-        let c = clause_at(text, line);
-        k = one_more(k, c.kind);
-        line = next_line(text, line);
+    let mut at: usize = 0;
+    while at <= text.len() {
+        if let Some(c) = clause_at(text, at) {
+            if let Some(own) = goal_of_clause(q, n, k) {
+                put_clause(line, first, text, c, own);
+            }
+            k = one_more(k);
+        }
+        at = next_line(text, at);
     }
-    next
-}
-
-// Keeps in a table where the name of goal state q stands.
-fn keep(goals: &mut [usize], q: usize, start: usize, end: usize) {
-    if goals.len() / 2 <= q {
-        return;
-    }
-    goals[2 * q] = start;
-    goals[2 * q + 1] = end;
 }
 
 // Tells each goal state of the clauses of a text, and keeps in a table where it stands.
 pub fn list(phrases: &mut [u8], goals: &mut [usize], text: &[u8]) {
     let n = count(text);
-    let mut at: usize = 0;
-    let mut q: usize = 0;
-    while q < goals.len() / 2 {
-        let end = put_goal(phrases, at, text, n, q);
-        keep(goals, q, at, end);
-        at = end;
-        q += 1;
+    let mut line = Line {
+        bytes: phrases,
+        at: 0,
+    };
+    for q in 0..goals.len() / 2 {
+        goals[2 * q] = line.at;
+        put_goal(&mut line, text, n, q);
+        goals[2 * q + 1] = line.at;
     }
 }
