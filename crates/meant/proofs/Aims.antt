@@ -1,6 +1,6 @@
 -- The laws of a job whose goal and start were meant: the Goal body is what stands from its offset on, and the layout has the first numbers.
-use Prim.Native.Nat.{ℕ, ◌-◌, ◌≤◌, ◌<◌}
-use mathlib.Core.Bool.{Bool, true, false, false≢true}
+use Prim.Native.Nat.{ℕ, ◌-◌, ◌≤◌}
+use mathlib.Core.Bool.{Bool, true}
 use mathlib.Core.List.{List}
 use mathlib.Core.Logic.{◌↔◌}
 use mathlib.Core.Path.{◌≡◌, sym, ap, ◌∙◌}
@@ -18,9 +18,6 @@ use Rattle.lines.proofs.Wording.{same_word_true, same_word_eq}
 use Rattle.meant.specs.Aimed.{Aimed}
 
 module _ {b : List ℕ} {l : Layout} (f : Fit b l) where
-  pub goal_inside : l.goal_at ≤ length b
-  goal_inside = rw f.is_layout (omega (arith, f.keeps.ends))
-
   -- the Goal body ends where the job ends
   goal_whole : take (length b - l.goal_at) (drop l.goal_at b) ≡ goal_body b
   goal_whole = rw f.is_layout (ap (λ (k : ℕ). take k (drop (offset b 3) b)) left)
@@ -29,12 +26,6 @@ module _ {b : List ℕ} {l : Layout} (f : Fit b l) where
       left = omega (arith, f.keeps.ends)
 
   module _ {body : List ℕ} {n first : ℕ} where
-    pub no_room : length body < n → (false ≡ true) ↔ Aimed b body n first
-    no_room h = (λ e. absurd (false≢true e), λ x. absurd (omega (arith, x.room)))
-
-    pub other_first : (l.first_goal ≡ first → ⊥) → (false ≡ true) ↔ Aimed b body n first
-    other_first q = (λ e. absurd (false≢true e), λ x. absurd (q (first_goal_said f ∙ x.same_first)))
-
     pub same_bytes : {r : Bool} → n ≤ length body → l.first_goal ≡ first
         → r ≡ same_word (take (length b - l.goal_at) (drop l.goal_at b)) (take n body) → (r ≡ true) ↔ Aimed b body n first
     same_bytes h q z = (

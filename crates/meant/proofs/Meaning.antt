@@ -1,12 +1,11 @@
 -- The laws of a job that was meant: its records are the numbers of a set, seen from both sides.
-use Prim.Native.Nat.{ℕ, ◌+◌, ◌*◌, ◌/◌, ◌%◌, ◌≤◌, ◌<◌}
-use mathlib.Core.Bool.{true, false}
+use Prim.Native.Nat.{ℕ, ◌/◌, ◌%◌, ◌<◌}
+use mathlib.Core.Bool.{true}
 use mathlib.Core.List.{List}
-use mathlib.Core.Path.{◌≡◌, sym, ap}
-use mathlib.Core.Logic.{⊎_elim}
+use mathlib.Core.Path.{◌≡◌, sym}
 use native.Mathlib.Omega.{arith}
 use lib.ListN.{get_or}
-use Rattle.sets.proofs.Bits.{bit_none, below_or}
+use Rattle.std.specs.Prelude.{Option, Some, None, is_some}
 use Rattle.game.proofs.Tests.{same_test, some_met, and_iff, eqb_iff}
 use Rattle.rules.specs.Job.{Job, is_record, recorded}
 use Rattle.rules.specs.Bytes.{byte, said}
@@ -14,32 +13,15 @@ use Rattle.rules.proofs.Arenas.{is_record_iff}
 use Rattle.job.specs.Layout.{Fit}
 use Rattle.job.specs.Found.{FoundOf}
 use Rattle.job.specs.declared.layout.Layout.{Layout}
-use Rattle.job.specs.declared.ask.Found.{Found}
 use Rattle.job.proofs.Asking.{records_said, states_said}
 use Rattle.lines.specs.Numbers.{has}
 use Rattle.lines.specs.Says.{number}
 use Rattle.meant.specs.Meant.{move_number, Meant}
 
--- what looking for a record says of it
-pub found_there : (j : Job) (s a t : ℕ) {k : ℕ} {r : Found} → r ≡ Found.At k → FoundOf j s a t r → true ≡ recorded j s a t
-found_there j s a t e f = sym (rw e at f).0
-
-pub found_nowhere : (j : Job) (s a t : ℕ) {r : Found} → r ≡ Found.Nothing → FoundOf j s a t r → false ≡ recorded j s a t
-found_nowhere j s a t e f = sym (rw e at f)
-
--- what holds of the numbers of the bytes before byte k, and of those of byte k, holds up to the byte after
-pub byte_more : (P : ℕ → Type 0) (k : ℕ) → ((j : ℕ) → j < 8 * k → P j) → ((j : ℕ) → j < 8 * k + 8 → 8 * k ≤ j → P j) → (j : ℕ) → j < 8 * (k + 1) → P j
-byte_more P k before at j h = ⊎_elim (λ (g : j < 8 * k). before j g) (λ (g : 8 * k ≤ j). at j (omega (arith, h)) g) (below_or j (8 * k))
-
--- a byte that is 0 has no number
-pub none_said : (moves : List ℕ) (k j : ℕ) → get_or moves k 0 ≡ 0 → j < 8 * k + 8 → 8 * k ≤ j → has moves j ≡ false
-none_said moves k j e h g =
-    let ed : j / 8 ≡ k = omega (arith, h, g) in
-    rw (ed, e) (bit_none (j % 8))
-
--- the label of a state lies where the layout says
-pub label_there : {b : List ℕ} {l : Layout} → Fit b l → (s : ℕ) → get_or b (l.labels_at + s) 0 ≡ byte b 1 s
-label_there {b} f s = ap (λ (x : Layout). get_or b (x.labels_at + s) 0) f.is_layout
+-- a record is there where looking for it finds it
+pub found_recorded : (j : Job) (s a t : ℕ) (o : Option ℕ) → FoundOf j s a t o → is_some o ≡ recorded j s a t
+found_recorded j s a t None f = sym f
+found_recorded j s a t (Some k) f = sym f.0
 
 module _ {b : List ℕ} {l : Layout} (f : Fit b l) (moves : List ℕ)
     (into : (k : ℕ) → k < l.records → has moves (move_number ((said b).move k)) ≡ true)

@@ -12,14 +12,7 @@ pub fn is_goal(job: &[u8], l: Layout, body: &[u8], n: usize, first: usize) -> bo
     requires { Fit job.now l }
     ensures { (result ≡ true) ↔ Aimed job.now body.now n first }
 {
-    if body.len() < n {
-        return false;
-    }
-    if l.first_goal != first {
-        return false;
-    }
-    let at = l.goal_at;
-    is_same(&job[at..], &body[..n])
+    n <= body.len() && l.first_goal == first && is_same(&job[l.goal_at..], &body[..n])
 }
 
 // Whether a run of a job with this layout starts in the given state.

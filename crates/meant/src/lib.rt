@@ -11,7 +11,6 @@ ghost use Rattle.job.specs.Layout.{Fit};
 ghost use Rattle.lines.specs.Numbers.{has};
 ghost use Rattle.meant.specs.Meant.{move_number, Meant};
 
-use job::ask::Found;
 use job::layout::Layout;
 
 // Whether record k is a move that was said.
@@ -21,7 +20,8 @@ fn is_said(job: &[u8], l: Layout, moves: &[u8], k: usize) -> bool
     ensures { result ≡ has moves.now (move_number ((said job.now).move k)) }
 {
     let m = job::ask::move_at(job, l, k);
-    let i = ((m.state as usize) * 16 + (m.action as usize)) * 512 + (m.outcome as usize);
+    let (s, a, t) = m.figures();
+    let i = (s * 16 + a) * 512 + t;
     lines::numbers::has(moves, i)
 }
 
@@ -31,26 +31,21 @@ fn all_said(job: &[u8], l: Layout, moves: &[u8]) -> bool
     requires moves_len { length moves.now ≡ 524288 }
     ensures { result ≡ true → (k : ℕ) → k < l.records → has moves.now (move_number ((said job.now).move k)) ≡ true }
 {
-    let n = l.records;
-    let mut k: usize = 0;
-    while k < n {
+    for k in 0..l.records {
         if !is_said(job, l, moves, k) {
             return false;
         }
-        k += 1;
     }
     true
 }
 
 // Whether the move with this number is recorded.
+#[tactic(auto, using(crate::proofs::Meaning::found_recorded))]
 fn is_recorded(job: &[u8], l: Layout, i: usize) -> bool
     requires { Fit job.now l }
     ensures { result ≡ recorded (said job.now) (i / 8192) (i / 512 % 16) (i % 512) }
 {
-    match job::ask::find(job, l, i / 8192, i / 512 % 16, i % 512) {
-        Found::At(_) => true,
-        Found::Nothing => false,
-    }
+    job::ask::find(job, l, i / 8192, i / 512 % 16, i % 512).is_some()
 }
 
 // Whether each of the eight moves that byte k of the set tells of is recorded, if it was said.
@@ -60,16 +55,9 @@ fn byte_recorded(job: &[u8], l: Layout, moves: &[u8], k: usize) -> bool
     ensures { result ≡ true → (i : ℕ) → i < 8 * k + 8 → 8 * k ≤ i → has moves.now i ≡ true
         → recorded (said job.now) (i / 8192) (i / 512 % 16) (i % 512) ≡ true }
 {
-    let end = 8 * k + 8;
-    let mut i = 8 * k;
-    while i < end {
-        if lines::numbers::has(moves, i) {
-            if !is_recorded(job, l, i) {
-                return false;
-            }
-            i += 1;
-        } else {
-            i += 1;
+    for i in 8 * k..8 * k + 8 {
+        if lines::numbers::has(moves, i) && !is_recorded(job, l, i) {
+            return false;
         }
     }
     true
@@ -82,15 +70,9 @@ fn all_recorded(job: &[u8], l: Layout, moves: &[u8]) -> bool
     ensures { result ≡ true → (i : ℕ) → i < 4194304 → has moves.now i ≡ true
         → recorded (said job.now) (i / 8192) (i / 512 % 16) (i % 512) ≡ true }
 {
-    let mut k: usize = 0;
-    while k < 524288 {
-        if moves[k] != 0 {
-            if !byte_recorded(job, l, moves, k) {
-                return false;
-            }
-            k += 1;
-        } else {
-            k += 1;
+    for k in 0..moves.len() {
+        if moves[k] != 0 && !byte_recorded(job, l, moves, k) {
+            return false;
         }
     }
     true
@@ -102,14 +84,11 @@ fn labels_same(job: &[u8], l: Layout, labels: &[u8]) -> bool
     requires labels_len { length labels.now ≡ 512 }
     ensures { result ≡ true → (s : ℕ) → s < l.states → byte job.now 1 s ≡ get_or labels.now s 0 }
 {
-    let n = l.states;
     let at = l.labels_at;
-    let mut s: usize = 0;
-    while s < n {
+    for s in 0..l.states {
         if job[at + s] != labels[s] {
             return false;
         }
-        s += 1;
     }
     true
 }
@@ -120,11 +99,5 @@ pub fn is_right(job: &[u8], l: Layout, labels: &[u8], moves: &[u8]) -> bool
     requires labels_len { (length labels.now ≡ 512) × (length moves.now ≡ 524288) }
     ensures { result ≡ true → Meant job.now labels.now moves.now }
 {
-    if !all_said(job, l, moves) {
-        return false;
-    }
-    if !all_recorded(job, l, moves) {
-        return false;
-    }
-    labels_same(job, l, labels)
+    all_said(job, l, moves) && all_recorded(job, l, moves) && labels_same(job, l, labels)
 }

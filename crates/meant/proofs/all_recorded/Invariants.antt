@@ -1,5 +1,5 @@
 -- `all_recorded` meets its contract: each number of a byte passed that the set has is recorded; a byte that is 0 has none.
-use Prim.Native.Nat.{ℕ, ◌*◌, ◌-◌, ◌/◌, ◌%◌, ◌≤◌, ◌<◌}
+use Prim.Native.Nat.{ℕ, ◌*◌, ◌/◌, ◌%◌, ◌<◌}
 use mathlib.Core.Bool.{true}
 use mathlib.Core.Path.{◌≡◌}
 use Rattle.rules.specs.Job.{recorded}
@@ -9,8 +9,4 @@ use Rattle.meant.proofs.all_recorded.Given as goal
 
 abbrev pub invariant-loop-k : goal.invariant-loop-k
 invariant-loop-k l =
-    (l.k ≤ 524288)
-    × ((j : ℕ) → j < 8 * l.k → has l.moves j ≡ true → recorded (said l.job) (j / 8192) (j / 512 % 16) (j % 512) ≡ true)
-
-abbrev pub decreases-loop-k : goal.decreases-loop-k
-decreases-loop-k l = 524288 - l.k
+    (j : ℕ) → j < 8 * l.k → has l.moves j ≡ true → recorded (said l.job) (j / 8192) (j / 512 % 16) (j % 512) ≡ true

@@ -1,5 +1,5 @@
 -- `all_said` meets its contract: each record passed was said.
-use Prim.Native.Nat.{ℕ, ◌-◌, ◌≤◌, ◌<◌}
+use Prim.Native.Nat.{ℕ, ◌<◌}
 use mathlib.Core.Bool.{true}
 use mathlib.Core.Path.{◌≡◌}
 use Rattle.rules.specs.Bytes.{said}
@@ -8,7 +8,4 @@ use Rattle.meant.specs.Meant.{move_number}
 use Rattle.meant.proofs.all_said.Given as goal
 
 abbrev pub invariant-loop-k : goal.invariant-loop-k
-invariant-loop-k l = (l.k ≤ l.n) × ((i : ℕ) → i < l.k → has l.moves (move_number ((said l.job).move i)) ≡ true)
-
-abbrev pub decreases-loop-k : goal.decreases-loop-k
-decreases-loop-k l = l.n - l.k
+invariant-loop-k l = (i : ℕ) → i < l.k → has l.moves (move_number ((said l.job).move i)) ≡ true

@@ -1,5 +1,5 @@
 -- `byte_recorded` meets its contract: each number passed that the set has is recorded.
-use Prim.Native.Nat.{ℕ, ◌+◌, ◌*◌, ◌-◌, ◌/◌, ◌%◌, ◌≤◌, ◌<◌}
+use Prim.Native.Nat.{ℕ, ◌*◌, ◌/◌, ◌%◌, ◌≤◌, ◌<◌}
 use mathlib.Core.Bool.{true}
 use mathlib.Core.Path.{◌≡◌}
 use Rattle.rules.specs.Job.{recorded}
@@ -9,9 +9,4 @@ use Rattle.meant.proofs.byte_recorded.Given as goal
 
 abbrev pub invariant-loop-i : goal.invariant-loop-i
 invariant-loop-i l =
-    (l.end ≡ 8 * l.k + 8)
-    × (l.i ≤ l.end)
-    × ((j : ℕ) → j < l.i → 8 * l.k ≤ j → has l.moves j ≡ true → recorded (said l.job) (j / 8192) (j / 512 % 16) (j % 512) ≡ true)
-
-abbrev pub decreases-loop-i : goal.decreases-loop-i
-decreases-loop-i l = l.end - l.i
+    (j : ℕ) → j < l.i → 8 * l.k ≤ j → has l.moves j ≡ true → recorded (said l.job) (j / 8192) (j / 512 % 16) (j % 512) ≡ true

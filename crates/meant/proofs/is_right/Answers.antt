@@ -1,15 +1,15 @@
--- `is_right` meets its contract.
+-- `is_right` meets its contract: by three tests, one after the other.
 use mathlib.Core.Bool.{false≢true}
+use mathlib.Core.Path.{sym, ◌∙◌}
 use Rattle.meant.proofs.Meaning.{meant}
 use Rattle.meant.proofs.is_right.Goals as goal
+use Rattle.meant.proofs.is_right.Goals.{then-all_said, else-all_said}
 
-pub returns-then-not-all_said : goal.returns-then-not-all_said
-returns-then-not-all_said c = λ e. absurd (false≢true e)
-
-pub returns-then-not-all_recorded : goal.returns-then-not-all_recorded
-returns-then-not-all_recorded c = λ e. absurd (false≢true e)
-
-pub returns : goal.returns
-returns c =
-    λ e. meant c.requires.fit _ (c.all_said.ensures c.if-not-all_said.false)
-    (c.all_recorded.ensures c.if-not-all_recorded.false) _ (c.labels_same.ensures e)
+pub returns-then-all_recorded : goal.returns-then-all_recorded
+returns-then-all_recorded c =
+    elim c.if-all_said.branch [
+      | then-all_said w ↦
+          λ e. meant c.requires.fit _ (c.all_said.ensures w.if-all_said.true) (w.all_recorded.ensures (sym w.value-is ∙ c.if-all_recorded.true)) _
+          (c.labels_same.ensures e)
+      | else-all_said w ↦ λ e. absurd (false≢true (sym w.if-all_said.false ∙ sym w.value-is ∙ c.if-all_recorded.true))
+    ]

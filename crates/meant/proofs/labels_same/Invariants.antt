@@ -1,11 +1,8 @@
 -- `labels_same` meets its contract: each label passed is the one that was made.
-use Prim.Native.Nat.{ℕ, ◌+◌, ◌-◌, ◌≤◌, ◌<◌}
+use Prim.Native.Nat.{ℕ, ◌+◌, ◌<◌}
 use mathlib.Core.Path.{◌≡◌}
 use lib.ListN.{get_or}
 use Rattle.meant.proofs.labels_same.Given as goal
 
 abbrev pub invariant-loop-s : goal.invariant-loop-s
-invariant-loop-s l = (l.s ≤ l.n) × ((i : ℕ) → i < l.s → get_or l.job (l.at + i) 0 ≡ get_or l.labels i 0)
-
-abbrev pub decreases-loop-s : goal.decreases-loop-s
-decreases-loop-s l = l.n - l.s
+invariant-loop-s l = (i : ℕ) → i < l.s → get_or l.job (l.at + i) 0 ≡ get_or l.labels i 0
