@@ -10,11 +10,12 @@ use lib.ListN.{take, drop}
 use Rattle.sets.specs.Sets.{one, count}
 use Rattle.sets.proofs.Sizes.{count_le}
 use Rattle.game.proofs.Search.{clash}
-use Rattle.rules.specs.Form.{form_of}
+use Rattle.job.specs.Forms.{in_rules}
 use Rattle.rules.specs.Job.{Job, is_from}
-use Rattle.rules.specs.Bytes.{form, said}
+use Rattle.rules.specs.Bytes.{form, said, is_tall}
 use Rattle.rules.specs.declared.place.Move.{Move}
 use Rattle.job.specs.Layout.{FitBut}
+use Rattle.job.proofs.Named.{named_back}
 use Rattle.job.specs.declared.layout.Layout.{Layout}
 use Rattle.salvage.specs.Mended.{spoilt, stays, first_of_pair, lists}
 use Rattle.salvage.specs.Salvage.{record_bytes}
@@ -33,11 +34,11 @@ module _ {b : List ℕ} {l : Layout} (f : FitBut true b l) where
   pub states_said : l.states ≡ (said b).states
   states_said = rw f.is_layout refl
 
-  pub wide_said : (form_of l.tall).record_size ≡ (form b).record_size
-  wide_said = rw f.is_layout refl
+  pub wide_said : (in_rules l.form).record_size ≡ (form b).record_size
+  wide_said = rw (f.is_layout, named_back (is_tall b)) refl
 
-  pub bytes_are : (w k : ℕ) → w ≡ (form_of l.tall).record_size → take w (drop (l.moves_at + w * k) b) ≡ record_bytes b k
-  bytes_are w k e = rw (e, f.is_layout) refl
+  pub bytes_are : (w k : ℕ) → w ≡ (in_rules l.form).record_size → take w (drop (l.moves_at + w * k) b) ≡ record_bytes b k
+  bytes_are w k e = rw (e, f.is_layout, named_back (is_tall b)) refl
 
 -- ---- the first record of a pair
 

@@ -10,7 +10,8 @@ use native.Mathlib.Omega.{arith}
 use lib.ListN.{length, get_or, take, drop, set, length-append, length-drop}
 use lib.Seq.{length-take-le, take_at, drop-append-add, drop-drop, get_or-drop, sets-eq, paste, paste-zero, paste-suc}
 use Rattle.salvage.specs.Salvage.{gathered}
-use Rattle.salvage.specs.Passes.{patched, Put}
+use Rattle.rules.specs.Retold.{patched}
+use Rattle.salvage.specs.Passes.{Put}
 
 -- ---- bytes put at a place
 
@@ -36,23 +37,22 @@ put_on d xs ys at h = ap₂ (λ (u v : List ℕ). u ++ ys ++ v) front back ∙ a
     index : at + length xs + length ys ≡ at + length (xs ++ ys)
     index = let a = length-append xs ys in omega arith
 
+-- bytes that lie inside make an output no longer
+pub patched_long : (d xs : List ℕ) (at : ℕ) → at + length xs ≤ length d → length (patched d at xs) ≡ length d
+patched_long d xs at h =
+    let front = length-take-le at d (omega arith) in
+    let begins = length-append (take at d) xs in
+    let all = length-append (take at d ++ xs) (drop (at + length xs) d) in
+    let rest : length (drop (at + length xs) d) ≡ length d - (at + length xs) = length-drop (at + length xs) d in
+    omega (arith, front, begins, all, rest, h)
+
 -- the same, said of outputs
 pub put_more : (d e e' xs ys : List ℕ) (at : ℕ) → e ≡ patched d 0 xs → length xs ≡ at → e' ≡ patched e at ys → e' ≡ patched d 0 (xs ++ ys)
 put_more d e e' xs ys at h l g =
     g ∙ ap₂ (λ (u : List ℕ) (k : ℕ). patched u k ys) h (sym l ∙ (let z : length xs ≡ 0 + length xs = omega arith in z)) ∙ put_on d xs ys 0 (omega arith)
 
-pub put_4 : (d : List ℕ) (at x y z w : ℕ) → at + 4 ≤ length d
-    → set (set (set (set d at x) (at + 1) y) (at + 2) z) (at + 3) w ≡ patched d at (x ∷ y ∷ z ∷ w ∷ [])
-put_4 d at x y z w h =
-    let e : at + 2 ≡ suc (suc at) = omega arith in
-    let g : at + 3 ≡ suc (suc (suc at)) = omega arith in
-    rw (add-one at, e, g) (sets-eq (x ∷ y ∷ z ∷ w ∷ []) d at h)
-
-pub put_3 : (d : List ℕ) (at x y z : ℕ) → at + 3 ≤ length d
-    → set (set (set d at x) (at + 1) y) (at + 2) z ≡ patched d at (x ∷ y ∷ z ∷ [])
-put_3 d at x y z h =
-    let e : at + 2 ≡ suc (suc at) = omega arith in
-    rw (add-one at, e) (sets-eq (x ∷ y ∷ z ∷ []) d at h)
+pub put_1 : (d : List ℕ) (at x : ℕ) → at + 1 ≤ length d → set d at x ≡ patched d at (x ∷ [])
+put_1 d at x h = sets-eq (x ∷ []) d at h
 
 -- ---- copying
 

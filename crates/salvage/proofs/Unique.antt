@@ -16,7 +16,9 @@ use Rattle.rules.proofs.Figures.{known_by, by_refusal, by_refusal_back}
 use Rattle.salvage.specs.Mended.{lists}
 use Rattle.salvage.specs.Salvage.{salvaged, removed, Salvaging, refused, no_room, done}
 use Rattle.salvage.specs.Figures.{SalvagedFigures, salvaged_figures}
-use Rattle.salvage.specs.declared.tool.Salvaged.{Salvaged}
+use Rattle.std.specs.Prelude.{Result, Ok, Err}
+use Rattle.rules.specs.declared.answer.Refusal.{Refusal}
+use Rattle.salvage.specs.declared.tool.Lengths.{Lengths}
 use Rattle.salvage.proofs.AsPlanning.{keeps_forgiven}
 use Rattle.salvage.proofs.Kept.{salvaged_keeps}
 use Rattle.salvage.proofs.Listing.{removed_length}
@@ -71,12 +73,12 @@ salvaging_short {b = b} (done e h g) =
 
 -- ---- an answer is known by its figures
 
-abbrev salvaged_of : SalvagedFigures → Salvaged
-salvaged_of f = by_refusal f.fault.number f.fault.«record» (Salvaged.Done f.job_length f.pairs_length) Salvaged.Refused
+abbrev salvaged_of : SalvagedFigures → Result Lengths Refusal
+salvaged_of f = by_refusal f.fault.number f.fault.«record» (Ok (record { job = f.job_length; pairs = f.pairs_length })) Err
 
-salvaged_back : (r : Salvaged) → salvaged_of (salvaged_figures r) ≡ r
-salvaged_back (Salvaged.Done m n) = refl
-salvaged_back (Salvaged.Refused r) = by_refusal_back r _ Salvaged.Refused
+salvaged_back : (r : Result Lengths Refusal) → salvaged_of (salvaged_figures r) ≡ r
+salvaged_back (Ok x) = refl
+salvaged_back (Err why) = by_refusal_back why _ Err
 
-pub salvaged_known : (r s : Salvaged) → salvaged_figures r ≡ salvaged_figures s → r ≡ s
+pub salvaged_known : (r s : Result Lengths Refusal) → salvaged_figures r ≡ salvaged_figures s → r ≡ s
 salvaged_known = known_by salvaged_figures salvaged_of salvaged_back

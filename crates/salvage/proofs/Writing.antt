@@ -14,7 +14,8 @@ use Rattle.rules.proofs.Kept.{kept_but, length_most}
 use Rattle.job.specs.Layout.{FitBut}
 use Rattle.job.specs.declared.layout.Layout.{Layout}
 use Rattle.salvage.specs.Salvage.{moves_kept, removed, salvaged, salvage_fault, Salvaging, no_room, done}
-use Rattle.salvage.specs.Passes.{Tallied, Sized, patched, head}
+use Rattle.rules.specs.Retold.{patched}
+use Rattle.salvage.specs.Passes.{Tallied, Sized, head}
 use Rattle.salvage.specs.declared.tally.Tally.{Tally}
 use Rattle.salvage.proofs.Bodies.{counts_long, labels_long, goal_long, kept_length, many_bytes, salvaged_length}
 use Rattle.salvage.proofs.Listing.{removed_length}

@@ -1,10 +1,10 @@
 -- What the passes over the records rely on and promise.
-use Rattle.std.specs.Prelude.{ℕ, suc, ◌+◌, ◌-◌, ◌≤◌, Bool, cond, not, ◌&&◌, List, [], ◌++◌, ◌≡◌, length, take, drop}
+use Rattle.std.specs.Prelude.{ℕ, suc, ◌+◌, ◌-◌, ◌≤◌, Bool, cond, not, ◌&&◌, List, [], ◌++◌, ◌≡◌, length}
 use Rattle.sets.specs.Sets.{one, count}
 use Rattle.rules.specs.Bytes.{offset, size, said}
 use Rattle.job.specs.declared.layout.Layout.{Layout}
 use Rattle.salvage.specs.Mended.{spoilt, stays, first_of_pair, lists}
-use Rattle.rules.specs.Retold.{two, body}
+use Rattle.rules.specs.Retold.{two, body, patched}
 use Rattle.salvage.specs.Salvage.{moves_kept, salvaged}
 use Rattle.salvage.specs.declared.pairs.Turn.{Turn}
 use Rattle.salvage.specs.declared.tally.Tally.{Tally}
@@ -33,10 +33,6 @@ pub record Tallied (b : List ℕ) (k : ℕ) (t : Tally) : Type 0 where
   pub listed_are : t.listed ≡ count (lists (said b)) k
 
 -- ---- writing
-
--- d with the bytes ys from a place on
-abbrev pub patched : List ℕ → ℕ → List ℕ → List ℕ
-patched d at ys = take at d ++ ys ++ drop (at + length ys) d
 
 -- number k, if it passes, puts its bytes at a place of d: the output is then e, and the next place is r
 pub record Put (f : ℕ → Bool) (g : ℕ → List ℕ) (k : ℕ) (d : List ℕ) (at : ℕ) (e : List ℕ) (r : ℕ) : Type 0 where

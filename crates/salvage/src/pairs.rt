@@ -14,10 +14,7 @@ use rules::place::Move;
 fn same_pair(m: Move, n: Move) -> bool
     ensures { result ≡ is_from m n.state n.action }
 {
-    if m.state != n.state {
-        return false;
-    }
-    m.action == n.action
+    m.pair() == n.pair()
 }
 
 // Whether record k is the first with its state and action. Records ascend, so that the one before it tells.
@@ -31,10 +28,7 @@ fn is_first(job: &[u8], l: Layout, k: usize) -> bool
     }
     let last = forgiven_move_at(job, l, k - 1);
     let m = forgiven_move_at(job, l, k);
-    if same_pair(last, m) {
-        return false;
-    }
-    true
+    !same_pair(last, m)
 }
 
 // Whether the pair whose first record is `begin` has an outcome that is no state: its records lie together from there on.
@@ -44,24 +38,21 @@ fn is_bad(job: &[u8], l: Layout, begin: usize) -> bool
     requires begin_value { first_of_pair (said job.now) begin ≡ true }
     ensures { result ≡ spoilt (said job.now) begin }
 {
-    let n = l.records;
     let m = forgiven_move_at(job, l, begin);
-    let mut i = begin;
-    while i < n {
+    for i in begin..l.records {
         let x = forgiven_move_at(job, l, i);
         if !same_pair(x, m) {
             return false;
         }
-        if l.states <= x.outcome as usize {
+        if l.states <= usize::from(x.outcome) {
             return true;
         }
-        i += 1;
     }
     false
 }
 
 // What a pass finds of a record: whether it is the first of its pair, and whether the pair is bad.
-#[derive(Clone, Copy)]
+#[derive(Clone, Copy, Debug, PartialEq, Eq)]
 pub struct Turn {
     pub first: bool,
     pub bad: bool,

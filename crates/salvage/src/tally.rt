@@ -6,7 +6,7 @@ ghost use Rattle.salvage.specs.Passes.{Added, Tallied};
 use crate::pairs::{Turn, look};
 use job::layout::Layout;
 
-#[derive(Clone, Copy)]
+#[derive(Clone, Copy, Debug, PartialEq, Eq)]
 pub struct Tally {
     pub kept: usize,
     pub listed: usize,
@@ -18,19 +18,10 @@ fn added(t: Tally, u: Turn) -> Tally
     requires listed_bound { t.listed ≤ 8192 }
     ensures { Added t u result }
 {
-    if !u.bad {
-        return Tally {
-            kept: t.kept + 1,
-            listed: t.listed,
-        };
+    Tally {
+        kept: t.kept + usize::from(!u.bad),
+        listed: t.listed + usize::from(u.bad && u.first),
     }
-    if u.first {
-        return Tally {
-            kept: t.kept,
-            listed: t.listed + 1,
-        };
-    }
-    t
 }
 
 // How many records stay and how many pairs are removed.
@@ -38,15 +29,12 @@ pub fn count_all(job: &[u8], l: Layout) -> Tally
     requires { FitBut true job.now l }
     ensures { Tallied job.now l.records result }
 {
-    let n = l.records;
     let mut t = Tally { kept: 0, listed: 0 };
     let mut bad = false;
-    let mut k: usize = 0;
-    while k < n {
+    for k in 0..l.records {
         let u = look(job, l, k, bad);
         t = added(t, u);
         bad = u.bad;
-        k += 1;
     }
     t
 }

@@ -4,7 +4,8 @@ ghost use Rattle.rules.specs.Bytes.{said};
 ghost use Rattle.job.specs.Layout.{FitBut};
 ghost use Rattle.salvage.specs.Mended.{stays, lists};
 ghost use Rattle.salvage.specs.Salvage.{record_bytes, pair_bytes, moves_kept, removed, salvaged};
-ghost use Rattle.salvage.specs.Passes.{Turned, Put, Sized, patched, head};
+ghost use Rattle.rules.specs.Retold.{patched};
+ghost use Rattle.salvage.specs.Passes.{Turned, Put, Sized, head};
 
 use crate::pairs::{Turn, look};
 use crate::put::{copy, put_entry, put_pair};
@@ -22,7 +23,7 @@ fn put_record(out: &mut [u8], at: usize, job: &[u8], l: Layout, k: usize, u: Tur
     if u.bad {
         return at;
     }
-    let width = job::form::record_size(l.tall);
+    let width = l.form.record_size();
     copy(out, at, job, l.moves_at + width * k, width);
     at + width
 }
@@ -35,10 +36,7 @@ fn put_listed(out: &mut [u8], at: usize, job: &[u8], l: Layout, k: usize, u: Tur
     requires k_in_bounds { at + length (cond (lists (said job.now) k) (pair_bytes job.now k) []) ≤ length out.old }
     ensures { Put (lists (said job.now)) (pair_bytes job.now) k out.old at out.new result }
 {
-    if !u.bad {
-        return at;
-    }
-    if !u.first {
+    if !u.bad || !u.first {
         return at;
     }
     put_pair(out, at, forgiven_move_at(job, l, k));
@@ -53,17 +51,14 @@ fn write_records(out: &mut [u8], pairs: &mut [u8], job: &[u8], l: Layout)
     ensures out_after { out.new ≡ patched out.old l.moves_at (moves_kept job.now) }
     ensures pairs_after { pairs.new ≡ patched pairs.old 0 (removed job.now) }
 {
-    let n = l.records;
     let mut at = l.moves_at;
     let mut next: usize = 0;
     let mut bad = false;
-    let mut k: usize = 0;
-    while k < n {
+    for k in 0..l.records {
         let u = look(job, l, k, bad);
         at = put_record(out, at, job, l, k, u);
         next = put_listed(pairs, next, job, l, k, u);
         bad = u.bad;
-        k += 1;
     }
 }
 

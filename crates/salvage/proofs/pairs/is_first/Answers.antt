@@ -1,5 +1,5 @@
 -- `pairs::is_first` meets its contract: the record before tells.
-use mathlib.Core.Path.{◌≡◌, sym, ◌∙◌}
+use mathlib.Core.Path.{◌≡◌, sym}
 use native.Mathlib.Omega.{arith}
 use Rattle.rules.specs.Bytes.{said}
 use Rattle.salvage.proofs.Pairing.{told_first, records_said}
@@ -8,16 +8,8 @@ use Rattle.salvage.proofs.pairs.is_first.Goals as goal
 pub returns-then-k-eq0 : goal.returns-then-k-eq0
 returns-then-k-eq0 c = let e : c.args.k ≡ 0 = c.if-k-eq0.true in rw e
 
-pub returns-then-same_pair : goal.returns-then-same_pair
-returns-then-same_pair c =
-    let k = c.requires.fit_but.keeps in
-    let h = c.requires.k_lt_records in
-    told_first (said c.args.job.now) k.ascending c.args.k _ _ _ c.if-k-eq0.false (omega (arith, records_said c.requires.fit_but))
-    c.forgiven_move_at-last.ensures c.forgiven_move_at-m.ensures (sym c.same_pair.ensures ∙ c.if-same_pair.true)
-
 pub returns : goal.returns
 returns c =
-    let k = c.requires.fit_but.keeps in
     let h = c.requires.k_lt_records in
-    told_first (said c.args.job.now) k.ascending c.args.k _ _ _ c.if-k-eq0.false (omega (arith, records_said c.requires.fit_but))
-    c.forgiven_move_at-last.ensures c.forgiven_move_at-m.ensures (sym c.same_pair.ensures ∙ c.if-same_pair.false)
+    told_first (said c.args.job.now) c.requires.fit_but.keeps.ascending c.args.k _ _ _ c.if-k-eq0.false (omega (arith, records_said c.requires.fit_but))
+    c.forgiven_move_at-last.ensures c.forgiven_move_at-m.ensures (sym c.same_pair.ensures)

@@ -1,14 +1,16 @@
 -- `put::put_pair` meets its contract.
+use mathlib.Core.List.{[], ◌∷◌}
+use mathlib.Core.Path.{◌∙◌}
+use Prim.Native.Nat.{◌+◌}
 use native.Mathlib.Omega.{arith}
-use lib.ListN.{length-set}
-use Rattle.salvage.proofs.Putting.{put_3}
+use Rattle.rules.specs.Retold.{two, patched}
+use Rattle.salvage.proofs.Putting.{put_1, put_on, patched_long}
 use Rattle.salvage.proofs.put.put_pair.Goals as goal
 
-pub bounds-out-at-2 : goal.bounds-out-at-2
-bounds-out-at-2 c = simp length-set (omega arith)
-
-pub bounds-out-at-3 : goal.bounds-out-at-3
-bounds-out-at-3 c = simp length-set (omega arith)
-
 pub returns : goal.returns
-returns c = put_3 c.args.out.now c.args.at _ _ _ c.requires
+returns c =
+    let a = c.args in
+    let d = patched a.out.now a.at (two a.m.state []) in
+    rw c.put_word_at.ensures
+    (put_1 d (a.at + 2) a.m.action (omega (arith, c.requires, patched_long a.out.now (two a.m.state []) a.at (omega (arith, c.requires))))
+    ∙ put_on a.out.now (two a.m.state []) (a.m.action ∷ []) a.at (omega (arith, c.requires)))

@@ -6,11 +6,11 @@ use Rattle.salvage.proofs.Pairing.{carried_none, carried_on, records_said, talli
 use Rattle.salvage.proofs.tally.count_all.Goals as goal
 
 pub loop-k-init : goal.loop-k-init
-loop-k-init c = let b = c.args.job.now in (omega arith, carried_none b, tallied_none b)
+loop-k-init c = let b = c.args.job.now in (carried_none b, tallied_none b)
 
 pub added-t-requires : goal.added-t-requires
 added-t-requires c =
-    let h = tallied_few c.args.job.now c.loop-k.k c.loop-k.t c.loop-k.invariant.2 in
+    let h = tallied_few c.args.job.now c.loop-k.k c.loop-k.t c.loop-k.invariant.1 in
     let n = records_said c.requires in
     let m = records_few c.requires.keeps in
     record { kept_bound = omega arith; listed_bound = omega arith }
@@ -18,12 +18,11 @@ added-t-requires c =
 pub loop-k-preserved : goal.loop-k-preserved
 loop-k-preserved c =
     let b = c.args.job.now in (
-      omega arith,
       carried_on b c.loop-k.k _ c.look-u.ensures.bad_is,
-      tallied_more b c.loop-k.k c.loop-k.t _ _ c.loop-k.invariant.2 c.look-u.ensures c.added-t.ensures,
+      tallied_more b c.loop-k.k c.loop-k.t _ _ c.loop-k.invariant.1 c.look-u.ensures c.added-t.ensures,
     )
 
 pub returns : goal.returns
 returns c =
     let e : c.loop-k.k ≡ c.args.l.records = omega arith in
-    rw e at c.loop-k.invariant.2
+    rw e at c.loop-k.invariant.1

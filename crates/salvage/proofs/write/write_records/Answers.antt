@@ -2,7 +2,6 @@
 use mathlib.Core.Path.{◌≡◌, refl}
 use native.Mathlib.Omega.{arith}
 use Rattle.rules.specs.Bytes.{said}
-use Rattle.rules.proofs.Kept.{records_few}
 use Rattle.salvage.specs.Mended.{stays, lists}
 use Rattle.salvage.specs.Salvage.{record_bytes, pair_bytes}
 use Rattle.salvage.proofs.Pairing.{carried_none, carried_on, records_said}
@@ -12,7 +11,6 @@ use Rattle.salvage.proofs.write.write_records.Goals as goal
 pub loop-k-init : goal.loop-k-init
 loop-k-init c =
     let b = c.args.job.now in (
-      omega arith,
       refl,
       refl,
       carried_none b,
@@ -21,7 +19,7 @@ loop-k-init c =
     )
 
 pub look-u-requires : goal.look-u-requires
-look-u-requires c = record { fit_but = c.requires.fit_but; k_lt_records = c.loop-k-test.true; carried = c.loop-k.invariant.3 }
+look-u-requires c = record { fit_but = c.requires.fit_but; k_lt_records = c.loop-k-test.true; carried = c.loop-k.invariant.2 }
 
 pub put_record-at-requires : goal.put_record-at-requires
 put_record-at-requires c =
@@ -32,7 +30,7 @@ put_record-at-requires c =
       k_lt_records = h;
       turned = c.look-u.ensures;
       k_in_bounds = filled_room (stays (said b)) (record_bytes b) c.args.out.now c.args.l.moves_at (said b).records c.loop-k.k c.loop-k.out
-          c.loop-k.at c.requires.job_in_bounds c.loop-k.invariant.1 (omega (arith, h, records_said c.requires.fit_but)) c.loop-k.invariant.4;
+          c.loop-k.at c.requires.job_in_bounds c.loop-k.invariant.0 (omega (arith, h, records_said c.requires.fit_but)) c.loop-k.invariant.3;
     }
 
 pub put_listed-next-requires : goal.put_listed-next-requires
@@ -44,30 +42,22 @@ put_listed-next-requires c =
       k_lt_records = h;
       turned = c.look-u.ensures;
       k_in_bounds = filled_room (lists (said b)) (pair_bytes b) c.args.pairs.now 0 (said b).records c.loop-k.k c.loop-k.pairs c.loop-k.next
-          (let g = c.requires.job_in_bounds_2 in omega arith) c.loop-k.invariant.2 (omega (arith, h, records_said c.requires.fit_but)) c.loop-k.invariant.5;
+          (let g = c.requires.job_in_bounds_2 in omega arith) c.loop-k.invariant.1 (omega (arith, h, records_said c.requires.fit_but)) c.loop-k.invariant.4;
     }
-
-pub overflow_add-k : goal.overflow_add-k
-overflow_add-k c =
-    omega (arith, c.loop-k-test.true, records_said c.requires.fit_but, records_few c.requires.fit_but.keeps)
-
-pub loop-k-smaller : goal.loop-k-smaller
-loop-k-smaller c = omega (arith, c.loop-k-test.true)
 
 pub loop-k-preserved : goal.loop-k-preserved
 loop-k-preserved c =
     let b = c.args.job.now in (
-      omega (arith, c.loop-k-test.true),
-      omega (arith, c.out-1.given, c.loop-k.invariant.1),
-      omega (arith, c.pairs-1.given, c.loop-k.invariant.2),
+      omega (arith, c.out-1.given, c.loop-k.invariant.0),
+      omega (arith, c.pairs-1.given, c.loop-k.invariant.1),
       carried_on b c.loop-k.k _ c.look-u.ensures.bad_is,
       filled_more (stays (said b)) (record_bytes b) c.args.out.now c.args.l.moves_at c.loop-k.k c.loop-k.out c.loop-k.at _ _
-          (let h = c.requires.job_in_bounds in omega arith) c.loop-k.invariant.4 c.put_record-at.ensures,
+          (let h = c.requires.job_in_bounds in omega arith) c.loop-k.invariant.3 c.put_record-at.ensures,
       filled_more (lists (said b)) (pair_bytes b) c.args.pairs.now 0 c.loop-k.k c.loop-k.pairs c.loop-k.next _ _ (omega arith)
-          c.loop-k.invariant.5 c.put_listed-next.ensures,
+          c.loop-k.invariant.4 c.put_listed-next.ensures,
     )
 
 pub returns : goal.returns
 returns c =
-    let e : c.loop-k.k ≡ (said c.args.job.now).records = omega (arith, records_said c.requires.fit_but, c.loop-k-test.false, c.loop-k.invariant.0) in
-    record { out_after = (rw e at c.loop-k.invariant.4).fills; pairs_after = (rw e at c.loop-k.invariant.5).fills }
+    let e : c.loop-k.k ≡ (said c.args.job.now).records = omega (arith, records_said c.requires.fit_but, c.loop-k-test.false, c.loop-k.auto.k-end) in
+    record { out_after = (rw e at c.loop-k.invariant.3).fills; pairs_after = (rw e at c.loop-k.invariant.4).fills }

@@ -1,6 +1,5 @@
 -- `write::write_records` meets its contract: what is gathered of the records passed is put into both outputs, and the rest stays.
 use mathlib.Core.Path.{◌≡◌}
-use Prim.Native.Nat.{◌-◌, ◌≤◌}
 use lib.ListN.{length}
 use Rattle.rules.specs.Bytes.{said}
 use Rattle.salvage.specs.Mended.{stays, lists}
@@ -11,9 +10,6 @@ use Rattle.salvage.proofs.write.write_records.Given as goal
 
 abbrev pub invariant-loop-k : goal.invariant-loop-k
 invariant-loop-k l =
-    (l.k ≤ l.n) × (length l.out ≡ length l.initial.out) × (length l.pairs ≡ length l.initial.pairs) × Carried l.job l.k l.bad
+    (length l.out ≡ length l.initial.out) × (length l.pairs ≡ length l.initial.pairs) × Carried l.job l.k l.bad
     × Filled (stays (said l.job)) (record_bytes l.job) l.initial.out l.l.moves_at l.k l.out l.at
     × Filled (lists (said l.job)) (pair_bytes l.job) l.initial.pairs 0 l.k l.pairs l.next
-
-abbrev pub decreases-loop-k : goal.decreases-loop-k
-decreases-loop-k l = l.n - l.k
