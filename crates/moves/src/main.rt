@@ -1,7 +1,6 @@
 // The moves of One plate, a line for each: its state, action and outcome; and that there are no more.
 #![tactic(auto)]
 
-use reader::Handed;
 use rules::place::Move;
 
 fn show_move(rt: &impl Print, m: Move) {
@@ -9,10 +8,10 @@ fn show_move(rt: &impl Print, m: Move) {
 }
 
 // What a call of the reader handed out.
-fn show(rt: &impl Print, h: Handed) {
-    match h {
-        Handed::Record(m) => show_move(rt, m),
-        Handed::NoMore => {
+fn show(rt: &impl Print, handed: Option<Move>) {
+    match handed {
+        Some(m) => show_move(rt, m),
+        None => {
             let _ = println!(rt; "no more");
         }
     }

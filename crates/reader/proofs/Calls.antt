@@ -6,13 +6,14 @@ use mathlib.Core.Path.{◌≡◌, refl, sym, ap, ◌∙◌, subst}
 use native.Mathlib.Nat.{eq-or-lt_of_le}
 use native.Mathlib.Omega.{arith}
 use denote.Ref.{Bor}
+use Rattle.std.specs.Prelude.{Option, Some, None}
 use Rattle.game.specs.Below.{upto}
+use Rattle.rules.specs.declared.place.Move.{Move}
 use Rattle.rules.specs.Bytes.{fault, refusal, said}
 use Rattle.rules.specs.Examples.{plate}
 use Rattle.sets.proofs.Bits.{below_or}
 use Rattle.rules.proofs.Numbers.{Among, told}
 use Rattle.reader.specs.Handed.{moves_in, handed, cursor, answered, opened, hands, after}
-use Rattle.reader.specs.declared.Handed.{Handed}
 use Rattle.reader.specs.declared.MoveReader.{MoveReader}
 use Rattle.reader.proofs.Handing.{moves_of_job, moves_of_refused, hands_record, hands_no_more, moves_on, stays}
 
@@ -24,7 +25,7 @@ module _ (s : Bor (List ℕ)) where
   abbrev reader : ℕ → MoveReader
   reader k = after k (opened s)
 
-  abbrev call : ℕ → Handed
+  abbrev call : ℕ → Option Move
   call k = hands (reader k)
 
   -- ---- opening gives 0, or 1 to 6, 12 and 13, these two alone with a record, and the calls change nothing but the cursor
@@ -67,7 +68,7 @@ module _ (s : Bor (List ℕ)) where
   call_is : (k : ℕ) → call k ≡ handed b (reader k).at
   call_is k = ap (λ (j : Bor (List ℕ)). handed j.now (reader k).at) (same_job k)
 
-  past_all : (k : ℕ) → moves_in b ≤ k → call k ≡ Handed.NoMore
+  past_all : (k : ℕ) → moves_in b ≤ k → call k ≡ None
   past_all k h = call_is k ∙ ap (handed b) (counts_no_more k h) ∙ hands_no_more b (moves_in b) (omega arith)
 
   -- whether there is such a record or not
@@ -78,22 +79,22 @@ module _ (s : Bor (List ℕ)) where
       (λ (h : moves_in b ≤ k). past_all k h ∙ sym (hands_no_more b k h))
       (below_or k (moves_in b))
 
-  pub kth : (k : ℕ) → refusal b ≡ 0 → k < (said b).records → call k ≡ Handed.Record ((said b).move k)
+  pub kth : (k : ℕ) → refusal b ≡ 0 → k < (said b).records → call k ≡ Some ((said b).move k)
   kth k read h =
       let below : k < moves_in b = subst (λ (n : ℕ). k < n) (sym (moves_of_job b read)) h in
       call_is k ∙ ap (handed b) (counts k (omega (arith, below))) ∙ hands_record b k below
 
-  pub no_more : (k : ℕ) → refusal b ≡ 0 → (said b).records ≤ k → call k ≡ Handed.NoMore
+  pub no_more : (k : ℕ) → refusal b ≡ 0 → (said b).records ≤ k → call k ≡ None
   no_more k read h = past_all k (subst (λ (n : ℕ). n ≤ k) (sym (moves_of_job b read)) h)
 
-  pub none_refused : (k : ℕ) → refusal b ≢ 0 → call k ≡ Handed.NoMore
+  pub none_refused : (k : ℕ) → refusal b ≢ 0 → call k ≡ None
   none_refused k refused = past_all k (subst (λ (n : ℕ). n ≤ k) (sym (moves_of_refused b refused)) zero-le)
 
 -- ---- One plate has six moves
 
-abbrev one : ℕ → ℕ → ℕ → Handed
-one f a t = Handed.Record (record { state = f; action = a; outcome = t })
+abbrev one : ℕ → ℕ → ℕ → Option Move
+one f a t = Some (record { state = f; action = a; outcome = t })
 
 pub plate_moves : map (handed plate) (upto 7)
-    ≡ one 0 0 1 ∷ one 0 0 3 ∷ one 1 1 1 ∷ one 1 1 2 ∷ one 1 2 0 ∷ one 2 2 0 ∷ Handed.NoMore ∷ []
+    ≡ one 0 0 1 ∷ one 0 0 3 ∷ one 1 1 1 ∷ one 1 1 2 ∷ one 1 2 0 ∷ one 2 2 0 ∷ None ∷ []
 plate_moves = refl

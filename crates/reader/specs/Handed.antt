@@ -1,10 +1,10 @@
 -- What the reader of moves answers over a job's bytes: how many moves it hands out, the one at a cursor, and the cursor after it.
-use Rattle.std.specs.Prelude.{ℕ, zero, suc, ◌+◌, cond, List, eqb, ltb}
+use Rattle.std.specs.Prelude.{ℕ, zero, suc, ◌+◌, cond, List, eqb, ltb, Option, Some, None}
 use Rattle.std.specs.Borrow.{Bor}
 use Rattle.rules.specs.Fault.{Fault}
 use Rattle.rules.specs.Bytes.{fault, refusal, said}
+use Rattle.rules.specs.declared.place.Move.{Move}
 use Rattle.reader.specs.declared.Answer.{Answer}
-use Rattle.reader.specs.declared.Handed.{Handed}
 use Rattle.reader.specs.declared.MoveReader.{MoveReader}
 
 -- a job that is refused has no moves
@@ -12,8 +12,8 @@ abbrev pub moves_in : List ℕ → ℕ
 moves_in b = cond (eqb (refusal b) 0) (said b).records 0
 
 -- record k, or no more
-abbrev pub handed : List ℕ → ℕ → Handed
-handed b k = cond (ltb k (moves_in b)) (Handed.Record ((said b).move k)) Handed.NoMore
+abbrev pub handed : List ℕ → ℕ → Option Move
+handed b k = cond (ltb k (moves_in b)) (Some ((said b).move k)) None
 
 -- a record that is handed out moves the cursor on by one
 abbrev pub cursor : List ℕ → ℕ → ℕ
@@ -28,7 +28,7 @@ abbrev pub opened : Bor (List ℕ) → MoveReader
 opened s = record { job = s; answer = answered (fault s.now); at = 0 }
 
 -- what a reader hands out, and the reader afterwards, which holds the same job
-abbrev pub hands : MoveReader → Handed
+abbrev pub hands : MoveReader → Option Move
 hands r = handed r.job.now r.at
 
 abbrev pub moved : MoveReader → MoveReader

@@ -6,24 +6,16 @@ ghost use Rattle.std.specs.Prelude.{◌≡◌};
 ghost use Rattle.rules.specs.Bytes.{fault};
 ghost use Rattle.reader.specs.Handed.{answered, handed, cursor, opened, hands, moved};
 
-use job::layout::Reading;
 use rules::place::Move;
 
-// What asking for a move answers: the record, or that there are no more.
-#[derive(Clone, Copy)]
-pub enum Handed {
-    Record(Move),
-    NoMore,
-}
-
 // What opening answers: the number that refuses the job, or 0, and with 12 and 13 the bad record.
-#[derive(Clone, Copy)]
+#[derive(Clone, Copy, Debug, PartialEq, Eq)]
 pub struct Answer {
     pub refusal: u32,
     pub record: u32,
 }
 
-#[derive(Clone, Copy)]
+#[derive(Clone, Copy, Debug, PartialEq, Eq)]
 pub struct MoveReader<'a> {
     pub job: &'a [u8],
     pub answer: Answer,
@@ -35,29 +27,29 @@ pub fn opening(job: &[u8]) -> Answer
     ensures { result ≡ answered (fault job.now) }
 {
     match job::accept::read(job) {
-        Reading::Refused(why) => Answer {
-            refusal: why.number(),
-            record: why.record(),
-        },
-        Reading::Job(_) => Answer {
+        Ok(_) => Answer {
             refusal: 0,
             record: 0,
+        },
+        Err(why) => Answer {
+            refusal: why.number(),
+            record: why.record(),
         },
     }
 }
 
-// Move k of the job, for whoever counts for himself.
-pub fn nth_move(job: &[u8], k: usize) -> Handed
+// Move k of the job, for whoever counts for himself. A job that is refused has none.
+pub fn nth_move(job: &[u8], k: usize) -> Option<Move>
     ensures { result ≡ handed job.now k }
 {
     match job::accept::read(job) {
-        Reading::Refused(_) => Handed::NoMore,
-        Reading::Job(l) => {
+        Ok(l) => {
             if k < l.records {
-                return Handed::Record(job::ask::move_at(job, l, k));
+                return Some(job::ask::move_at(job, l, k));
             }
-            Handed::NoMore
+            None
         }
+        Err(_) => None,
     }
 }
 
@@ -66,13 +58,13 @@ pub fn next_at(job: &[u8], at: usize) -> usize
     ensures { result ≡ cursor job.now at }
 {
     match job::accept::read(job) {
-        Reading::Refused(_) => at,
-        Reading::Job(l) => {
+        Ok(l) => {
             if at < l.records {
                 return at + 1;
             }
             at
         }
+        Err(_) => at,
     }
 }
 
@@ -87,8 +79,8 @@ pub fn open_moves<'a>(job: &'a [u8]) -> MoveReader<'a>
     }
 }
 
-// Hands out the move at the cursor, and moves it on.
-pub fn next_move<'s, 'a>(r: &'s mut MoveReader<'a>) -> Handed
+// Hands out the move at the cursor, if there are more, and moves it on.
+pub fn next_move<'s, 'a>(r: &'s mut MoveReader<'a>) -> Option<Move>
     ensures { (result ≡ hands r.old) × (r.new ≡ moved r.old) }
 {
     let job = r.job;
@@ -98,7 +90,7 @@ pub fn next_move<'s, 'a>(r: &'s mut MoveReader<'a>) -> Handed
 }
 
 // The first move, for whoever holds no reader.
-pub fn first_move(job: &[u8]) -> Handed
+pub fn first_move(job: &[u8]) -> Option<Move>
     ensures { result ≡ handed job.now 0 }
 {
     let mut r = open_moves(job);
