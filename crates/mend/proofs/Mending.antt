@@ -18,7 +18,9 @@ use Rattle.rules.specs.Bytes.{offset, size, is_tall, form, said}
 use Rattle.rules.specs.Keeps.{KeepsBut}
 use Rattle.rules.proofs.Kept.{kept_but, records_few, states_few, length_most}
 use Rattle.rules.proofs.Numbers.{told_but}
+use Rattle.text.specs.declared.Line.{Line}
 use Rattle.text.specs.PutText.{PutText}
+use Rattle.text.specs.Puts.{Puts}
 use Rattle.text.specs.Lines.{decimal, bytes, refusal_line}
 use Rattle.text.proofs.Digits.{decimal_length}
 use Rattle.text.proofs.Repeating.{each_same, short_each}
@@ -83,17 +85,17 @@ pub mends_short : {b new text : List ℕ} → Mends b new text → length text �
 mends_short {b} (refuses n) = let (h, l) = fault_few_but true b (told_but true b).among in omega (arith, short_refusal _ h l)
 mends_short {b} (mends e) = let k = (kept_but true b).0 e in short_text b k _ (omega (arith, records_few k))
 
-pub mended_whole : {b out new left : List ℕ} {m n : ℕ} → Mended b out new left m n → 245782 ≤ length out
-    → IsPrefixLen m new × IsPrefixLen n left × Mends b (take m new) (take n left)
-mended_whole {b} {new = new} {m = m} r room =
-    let (count, text) = put_front r.put (omega (arith, mends_short r.right)) in
+pub mended_whole : {b new out left : List ℕ} {line after : Line} {m n : ℕ} (r : Mended b new line after m) → PutText out 0 r.text left n
+    → 245782 ≤ length out → IsPrefixLen m new × IsPrefixLen n left × Mends b (take m new) (take n left)
+mended_whole {b} {new = new} {m = m} r put room =
+    let (count, text) = put_front put (omega (arith, mends_short r.right)) in
     ((r.fits, sym (length-take-le m new r.fits)), count, subst⁻¹ (Mends b (take m new)) text r.right)
 
 -- ---- what salvaging leaves, where both buffers have room for all
 
 -- a refusal is the one of the bytes
-pub mended_refused : {b d p d' p' out left : List ℕ} {f : Fault} {m n r : ℕ} → Salvaging b d p f m n d' p' → f.number ≢ 0 → 43576 ≤ length d
-    → 24576 ≤ length p → PutText out 0 (refusal_line f) left r → Mended b out d' left 0 r
+pub mended_refused : {b d p d' p' : List ℕ} {line after : Line} {f : Fault} {m n : ℕ} → Salvaging b d p f m n d' p' → f.number ≢ 0 → 43576 ≤ length d
+    → 24576 ≤ length p → Puts line (refusal_line f) after → Mended b d' line after 0
 mended_refused (refused n) z h g put = record { text = _; fits = omega arith; right = refuses n; put = put }
 mended_refused {b} {d} {p} (no_room e l) z h g put =
     let k = (kept_but true b).0 e in
@@ -130,8 +132,8 @@ mended_done {b} {d} {p} (done e h g) z =
           ap₂ pair_line (ap₂ (λ (u v : ℕ). u + 256 * v) (at (3 * x) (omega arith)) (at (3 * x + 1) (omega arith))) (at (3 * x + 2) (omega arith)));
     }
 
-pub mended_said : {b d' p' out left : List ℕ} {m n gone r : ℕ} → Done b d' p' m n → gone ≡ (said b).records - (said (salvaged b)).records
-    → PutText out 0 (mended_text p' (n / 3) gone) left r → Mended b out d' left m r
+pub mended_said : {b d' p' : List ℕ} {line after : Line} {m n gone : ℕ} → Done b d' p' m n → gone ≡ (said b).records - (said (salvaged b)).records
+    → Puts line (mended_text p' (n / 3) gone) after → Mended b d' line after m
 mended_said {b} {d'} {p'} {m = m} {n} {gone} w e put =
     record {
       text = mended_text p' (n / 3) gone;

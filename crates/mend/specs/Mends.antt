@@ -3,7 +3,8 @@ use Rattle.std.specs.Prelude.{ℕ, ◌+◌, ◌*◌, ◌/◌, ◌-◌, ◌≤◌
 use Rattle.game.specs.Below.{upto, each}
 use Rattle.rules.specs.Form.{word}
 use Rattle.rules.specs.Bytes.{said}
-use Rattle.text.specs.PutText.{PutText}
+use Rattle.text.specs.declared.Line.{Line}
+use Rattle.text.specs.Puts.{Puts}
 use Rattle.text.specs.Lines.{decimal, bytes, refusal_line}
 use Rattle.salvage.specs.Salvage.{salvaged, removed, salvage_fault}
 
@@ -25,9 +26,9 @@ pub data Mends (b : List ℕ) : List ℕ → List ℕ → Type 0 where
   mends : (salvage_fault b).number ≡ 0
       → Mends b (salvaged b) (mended_text (removed b) (length (removed b) / 3) ((said b).records - (said (salvaged b)).records))
 
--- such bytes stand at the beginning of one buffer, and such a text is put at the beginning of another, which held `out` and then holds `left`
-pub record Mended (b out new left : List ℕ) (m n : ℕ) : Type 0 where
+-- such bytes stand at the beginning of a buffer, and such a text is put in the line
+pub record Mended (b new : List ℕ) (line after : Line) (m : ℕ) : Type 0 where
   pub text : List ℕ
   pub fits : m ≤ length new
   pub right : Mends b (take m new) text
-  pub put : PutText out 0 text left n
+  pub put : Puts line text after

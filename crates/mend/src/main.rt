@@ -6,13 +6,12 @@ ghost use Rattle.io.specs.Counts.{IsPrefixLen};
 ghost use Rattle.game.specs.Below.{upto, each};
 ghost use Rattle.rules.specs.Bytes.{said};
 ghost use Rattle.rules.specs.Keeps.{KeepsBut};
-ghost use Rattle.text.specs.PutText.{PutText};
+ghost use Rattle.text.specs.Puts.{Puts};
 ghost use Rattle.salvage.specs.Salvage.{salvaged};
 ghost use Rattle.mend.specs.Mends.{pair_line, listed_line, mended_text, Mends, Mended};
 
-use job::layout::Reading;
-use salvage::tool::Salvaged;
-use std::io::Read;
+use programs::input::read_up_to;
+use text::Line;
 
 // How much of a job is taken in: more than the longest one, so that a longer one is refused.
 const JOB_ROOM: usize = 49152;
@@ -26,49 +25,45 @@ const PAIRS_ROOM: usize = 24576;
 const ROOM: usize = 245782;
 
 // The line of a removed pair.
-fn put_pair(out: &mut [u8], at: usize, state: u32, action: u32) -> usize
-    ensures { PutText out.old at (pair_line state action) out.new result }
+fn put_pair(line: &mut Line<'_>, state: u32, action: u32)
+    ensures { Puts line.old (pair_line state action) line.new }
 {
-    let at = text::put_word(out, at, b"removed: state ");
-    let at = text::put_number(out, at, state);
-    let at = text::put_word(out, at, b", action ");
-    let at = text::put_number(out, at, action);
-    text::put(out, at, b'\n')
+    line.put_word(b"removed: state ");
+    line.put_number(state);
+    line.put_word(b", action ");
+    line.put_number(action);
+    line.put(b'\n');
 }
 
 // The line of pair k of a list.
-fn put_listed(out: &mut [u8], at: usize, pairs: &[u8], k: usize) -> usize
+fn put_listed(line: &mut Line<'_>, pairs: &[u8], k: usize)
     requires { 3 * k + 2 < length pairs.now }
-    ensures { PutText out.old at (listed_line pairs.now k) out.new result }
+    ensures { Puts line.old (listed_line pairs.now k) line.new }
 {
-    let i = 3 * k;
-    let state = (pairs[i] as u32) + 256 * (pairs[i + 1] as u32);
-    put_pair(out, at, state, pairs[i + 2] as u32)
+    let state = rules::bytes::word_at(pairs, 3 * k);
+    let action = pairs[3 * k + 2];
+    put_pair(line, u32::from(state), u32::from(action));
 }
 
 // The lines of the first n pairs of a list.
-fn put_list(out: &mut [u8], at: usize, pairs: &[u8], n: usize) -> usize
+fn put_list(line: &mut Line<'_>, pairs: &[u8], n: usize)
     requires { 3 * n ≤ length pairs.now }
-    ensures { PutText out.old at (each (upto n) (listed_line pairs.now)) out.new result }
+    ensures { Puts line.old (each (upto n) (listed_line pairs.now)) line.new }
 {
-    let mut next = at;
-    let mut k: usize = 0;
-    while k < n {
-        next = put_listed(out, next, pairs, k);
-        k += 1;
+    for k in 0..n {
+        put_listed(line, pairs, k);
     }
-    next
 }
 
 // What is said of a job that was salvaged: the first n pairs of the list, and how many records went.
-fn put_mended(out: &mut [u8], pairs: &[u8], n: usize, gone: u32) -> usize
+fn put_mended(line: &mut Line<'_>, pairs: &[u8], n: usize, gone: u32)
     requires { 3 * n ≤ length pairs.now }
-    ensures { PutText out.old 0 (mended_text pairs.now n gone) out.new result }
+    ensures { Puts line.old (mended_text pairs.now n gone) line.new }
 {
-    let at = put_list(out, 0, pairs, n);
-    let at = text::put_word(out, at, b"records removed: ");
-    let at = text::put_number(out, at, gone);
-    text::put(out, at, b'\n')
+    put_list(line, pairs, n);
+    line.put_word(b"records removed: ");
+    line.put_number(gone);
+    line.put(b'\n');
 }
 
 // How many records went, where the salvaged job has so many bytes.
@@ -78,38 +73,38 @@ fn count_gone(job: &[u8], left: usize) -> u32
     ensures { result ≡ (said job.now).records - (said (salvaged job.now)).records }
 {
     match job::accept::read_forgiving(job) {
-        Reading::Refused(_) => 0,
-        Reading::Job(l) => ((job.len() - left) / job::form::record_size(l.tall)) as u32,
+        Err(_) => 0,
+        Ok(l) => ((job.len() - left) / l.form.record_size()) as u32,
+    }
+}
+
+// Salvages the job, puts what is to be said in a line, and answers how many bytes of the buffer are the salvaged job.
+fn mend(
+    line: &mut Line<'_>,
+    new: &mut [u8; NEW_ROOM],
+    pairs: &mut [u8; PAIRS_ROOM],
+    job: &[u8],
+) -> usize
+    ensures { Mended job.now new.new line.old line.new result }
+{
+    match salvage::tool::salvage(job, new, pairs) {
+        Err(why) => {
+            line.put_refusal(why);
+            0
+        }
+        Ok(lengths) => {
+            let gone = count_gone(job, lengths.job);
+            put_mended(line, pairs, lengths.pairs / 3, gone);
+            lengths.job
+        }
     }
 }
 
 // How many bytes of the buffers are the salvaged job and what is said.
-#[derive(Clone, Copy)]
+#[derive(Clone, Copy, Debug, PartialEq, Eq)]
 struct Said {
     job: usize,
     text: usize,
-}
-
-// Salvages the job, and puts what is to be said at the beginning of the text.
-fn mend(text: &mut [u8], new: &mut [u8; NEW_ROOM], pairs: &mut [u8; PAIRS_ROOM], job: &[u8]) -> Said
-    ensures { Mended job.now text.old new.new text.new result.job result.text }
-{
-    match salvage::tool::salvage(job, new, pairs) {
-        Salvaged::Refused(why) => Said {
-            job: 0,
-            text: text::put_refusal(text, 0, why),
-        },
-        Salvaged::Done {
-            job_length,
-            pairs_length,
-        } => {
-            let gone = count_gone(job, job_length);
-            Said {
-                job: job_length,
-                text: put_mended(text, pairs, pairs_length / 3, gone),
-            }
-        }
-    }
 }
 
 // The same in a buffer that has room for every text.
@@ -123,24 +118,9 @@ fn mend_whole(
     ensures prefix_len_2 { IsPrefixLen result.text text.new }
     ensures mends { Mends job.now (take result.job new.new) (take result.text text.new) }
 {
-    mend(text, new, pairs, job)
-}
-
-// Reads until the buffer is full, the input ends or a read fails, and answers how many bytes stand at its beginning.
-fn read_full<R: Read>(input: &mut R, buffer: &mut [u8]) -> usize
-    ensures { IsPrefixLen result buffer.new }
-{
-    let mut done: usize = 0;
-    while done < buffer.len() {
-        let Ok(n) = input.read(&mut buffer[done..]) else {
-            return done;
-        };
-        if n == 0 {
-            return done;
-        }
-        done += n;
-    }
-    done
+    let mut line = Line { bytes: text, at: 0 };
+    let job = mend(&mut line, new, pairs, job);
+    Said { job, text: line.at }
 }
 
 // Writes the salvaged job, and says what was removed: what is handed over here is what the program prints.
@@ -153,7 +133,7 @@ fn print(out: &impl Print, error: &impl Print, job: &[u8], new: &[u8], text: &[u
 
 fn main(rt: HostRuntime) {
     let mut job = [0u8; JOB_ROOM];
-    let n = read_full(&mut rt.stdin(), &mut job);
+    let n = read_up_to(&mut rt.stdin(), &mut job);
     let mut new = [0u8; NEW_ROOM];
     let mut pairs = [0u8; PAIRS_ROOM];
     let mut text = [0u8; ROOM];
