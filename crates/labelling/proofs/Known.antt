@@ -5,7 +5,7 @@ use mathlib.Core.Path.{◌≡◌, refl, sym, ap, ◌∙◌}
 use native.Mathlib.Omega.{arith}
 use lib.Dec.{eqb, ltb}
 use Rattle.sets.specs.Sets.{bit}
-use Rattle.sets.specs.declared.actions.LowestAction.{LowestAction}
+use Rattle.std.specs.Prelude.{Option, Some, None}
 use Rattle.sets.proofs.Determined.{actions_unique}
 use Rattle.rules.specs.Job.{Job, arena}
 use Rattle.rules.specs.declared.place.Place.{Place}
@@ -34,12 +34,12 @@ tallied_unique {x} {a = a} {inside} s t =
     (λ k. not inside && (ltb a 16 && eqb k a) || bit x.spoilt.bits k)
     s.opens s.held s.spoilt t.opens t.held t.spoilt
 
-pub passing_unique : (f : ℕ → Bool) (r s : LowestAction) → LowestPassing f r → LowestPassing f s → r ≡ s
-passing_unique f (LowestAction.Is a) (LowestAction.Is c) x y =
+pub passing_unique : (f : ℕ → Bool) (r s : Option ℕ) → LowestPassing f r → LowestPassing f s → r ≡ s
+passing_unique f (Some a) (Some c) x y =
     let up : a < c → ⊥ = λ l. true≢false (sym x.1 ∙ y.2 a l) in
     let down : c < a → ⊥ = λ l. true≢false (sym y.1 ∙ x.2 c l) in
     let e : a ≡ c = omega arith in
-    ap LowestAction.Is e
-passing_unique f (LowestAction.Is a) LowestAction.Nothing x y = absurd (true≢false (sym x.1 ∙ y a))
-passing_unique f LowestAction.Nothing (LowestAction.Is c) x y = absurd (true≢false (sym y.1 ∙ x c))
-passing_unique f LowestAction.Nothing LowestAction.Nothing x y = refl
+    ap Some e
+passing_unique f (Some a) None x y = absurd (true≢false (sym x.1 ∙ y a))
+passing_unique f None (Some c) x y = absurd (true≢false (sym y.1 ∙ x c))
+passing_unique f None None x y = refl

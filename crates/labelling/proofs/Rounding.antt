@@ -9,13 +9,13 @@ use borrow.Author.Tests.{lt-ltb}
 use lib.Arith.{digits_lt, digits_div, digits_mod}
 use lib.Dec.{ltb}
 use lib.ListN.{length}
-use Rattle.sets.specs.Sets.{set_room, member, Put}
+use Rattle.sets.specs.Sets.{set_words, set_room, member, PutIn}
 use Rattle.game.specs.Game.{says}
 use Rattle.rules.specs.Job.{place, arena}
 use Rattle.rules.specs.Bytes.{said}
 use Rattle.rules.specs.Plan.{Wrote}
 use Rattle.game.specs.declared.entry.Entry.{Entry}
-use Rattle.sets.specs.declared.actions.LowestAction.{LowestAction}
+use Rattle.std.specs.Prelude.{Option, Some, None}
 use Rattle.job.specs.declared.layout.Layout.{Layout}
 use Rattle.job.proofs.Asking.{few_places, lawful}
 use Rattle.phases.specs.declared.phase.Phase.{Phase}
@@ -34,16 +34,16 @@ use Rattle.labelling.proofs.Choosing.{LowestCounted, chosen, choice_counted}
 pub next_row : (s g : ℕ) → (s + 1) * g ≡ s * g + g
 next_row s g = add-mul s 1 g ∙ ap (λ (x : ℕ). s * g + x) (one-mul g)
 
--- a pass leaves the set and the plan as long as they were
+-- a pass leaves the plan as long as it was
 pub ready_on : {b : List ℕ} {l : Layout} {s start end : ℕ} {gains writes : ℕ → Bool} {entries : ℕ → Entry} {lo hi : ℕ}
     {ws plan ws' plan' : List ℕ}
-    → Ready b l s start end ws plan → Pass gains writes entries lo hi ws plan ws' plan' → Ready b l s start end ws' plan'
+    → Ready b l s start end plan → Pass gains writes entries lo hi ws plan ws' plan' → Ready b l s start end plan'
 ready_on r p =
-    record { fit = r.fit; state = r.state; range = r.range; words = p.as_many ∙ r.words; room = rw p.as_long r.room }
+    record { fit = r.fit; state = r.state; range = r.range; room = rw p.as_long r.room }
 
 -- ---- a round at one place
 
-module _ {b : List ℕ} {l : Layout} {s start end q : ℕ} {ws plan : List ℕ} (r : Ready b l s start end ws plan) (g : q < l.goals) where
+module _ {b : List ℕ} {l : Layout} {s start end q : ℕ} {plan : List ℕ} (r : Ready b l s start end plan) (g : q < l.goals) where
   -- its number, which a set has room for, and the plan for its entry
   abbrev here : ℕ
   here = s * l.goals + q
@@ -60,26 +60,26 @@ module _ {b : List ℕ} {l : Layout} {s start end q : ℕ} {ws plan : List ℕ} 
 
   module _ (v : Phase) (n : ℕ) (old : List ℕ) where
     -- it is in the old set
-    pub passed_old : member old here ≡ true → Passed b l v n old here (here + 1) ws plan ws plan
+    pub passed_old : {ws : List ℕ} → member old here ≡ true → Passed b l v n old here (here + 1) ws plan ws plan
     passed_old m = pass_skip (rw m) (rw m)
 
     -- what was chosen from the tally is the lowest action that the round looks for
-    lowest_here : {x : Tally} → Scanned (said b) (in_set l.goals old) (place s q) x → (d : LowestAction)
+    lowest_here : {x : Tally} → Scanned (said b) (in_set l.goals old) (place s q) x → (d : Option ℕ)
         → LowestPassing (tallied_for v x) d
         → LowestCounted (wanted v (arena (said b)) (in_set l.goals old) (place s q)) (said b).actions d
     lowest_here k d c = choice_counted (lawful r.fit) (in_set l.goals old) (place s q) v d (chosen k v d c)
 
-    module _ {x : Tally} (k : Scanned (said b) (in_set l.goals old) (place s q) x) {d : LowestAction}
+    module _ {x : Tally} (k : Scanned (said b) (in_set l.goals old) (place s q) x) {d : Option ℕ}
         (c : LowestPassing (tallied_for v x) d) where
       -- it has no such action; it is new and has one
-      pub passed_none : d ≡ LowestAction.Nothing → Passed b l v n old here (here + 1) ws plan ws plan
+      pub passed_none : {ws : List ℕ} → d ≡ None → Passed b l v n old here (here + 1) ws plan ws plan
       passed_none e =
           let t = rw e at (lowest_here k d c) in
           let z : adds b l v n old here ≡ false = rw (digits_div s g, digits_mod s g, t) (and-false (not (member old here))) in
           pass_skip z z
 
-      pub passed_new : {i a y : ℕ} {ws1 plan1 : List ℕ} → i ≡ here → member old here ≡ false → d ≡ LowestAction.Is a
-          → Put ws i ws1 → y ≡ phase_value v → Wrote i (says y a n) plan plan1 → Passed b l v n old here (here + 1) ws plan ws1 plan1
+      pub passed_new : {i a y : ℕ} {ws ws1 plan1 : List ℕ} → i ≡ here → member old here ≡ false → d ≡ Some a
+          → PutIn set_words ws i ws1 → y ≡ phase_value v → Wrote i (says y a n) plan plan1 → Passed b l v n old here (here + 1) ws plan ws1 plan1
       passed_new i m e p y w =
           let t = rw e at (lowest_here k d c) in
           let z : adds b l v n old here ≡ true = rw (m, digits_div s g, digits_mod s g) t.0 in

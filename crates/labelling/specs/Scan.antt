@@ -1,9 +1,8 @@
 -- What looking through the records of one state shows of a place, with a set of places given.
-use Rattle.std.specs.Prelude.{ℕ, ◌+◌, ◌≤◌, ◌<◌, Bool, true, false, not, ◌&&◌, ◌||◌, ◌≡◌, eqb, ltb}
+use Rattle.std.specs.Prelude.{ℕ, ◌+◌, ◌≤◌, ◌<◌, Bool, true, false, not, ◌&&◌, ◌||◌, ◌≡◌, eqb, ltb, Option, Some, None}
 use Rattle.sets.specs.Sets.{bit}
 use Rattle.rules.specs.Job.{Job, arena}
 use Rattle.rules.specs.declared.place.Place.{Place}
-use Rattle.sets.specs.declared.actions.LowestAction.{LowestAction}
 use Rattle.game.proofs.Lists.{some}
 use Rattle.phases.specs.declared.phase.Phase.{Phase}
 use Rattle.labelling.specs.declared.scan.Tally.{Tally}
@@ -33,9 +32,9 @@ pub record Scanned (j : Job) (f : Place → Bool) (p : Place) (r : Tally) : Type
   pub spoilt : (a : ℕ) → bit r.spoilt.bits a ≡ some (λ t. not (f t)) ((arena j).leads p a)
 
 -- an answer names the lowest action below 16 that passes a test, or says that none passes
-abbrev pub LowestPassing : (ℕ → Bool) → LowestAction → Type 0
-LowestPassing f (LowestAction.Is a) = (a < 16) × (f a ≡ true) × ((k : ℕ) → k < a → f k ≡ false)
-LowestPassing f LowestAction.Nothing = (k : ℕ) → f k ≡ false
+abbrev pub LowestPassing : (ℕ → Bool) → Option ℕ → Type 0
+LowestPassing f (Some a) = (a < 16) × (f a ≡ true) × ((k : ℕ) → k < a → f k ≡ false)
+LowestPassing f None = (k : ℕ) → f k ≡ false
 
 -- the actions that a phase looks for in a tally
 abbrev pub tallied_for : Phase → Tally → ℕ → Bool

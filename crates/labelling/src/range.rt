@@ -12,14 +12,11 @@ pub fn range_end(job: &[u8], l: Layout, s: usize, start: usize) -> usize
     requires from { From (said job.now) s start }
     ensures { (start ≤ result) × From (said job.now) (s + 1) result }
 {
-    let n = l.records;
-    let mut k = start;
-    while k < n {
+    for k in start..l.records {
         let m = job::ask::move_at(job, l, k);
-        if m.state as usize != s {
+        if usize::from(m.state) != s {
             return k;
         }
-        k += 1;
     }
-    k
+    l.records
 }

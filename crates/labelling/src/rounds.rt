@@ -18,11 +18,11 @@ pub fn all_rounds(plan: &mut [u8], job: &[u8], l: Layout, set: PlaceSet, phase: 
     let n = l.states * l.goals;
     let used = sets::places::words_for(n);
     let mut got = set;
-    let mut few = sets::places::size_of(&set.words, used);
+    let mut few = set.len_in(used);
     let mut k: usize = 0;
     loop {
         let next = crate::round::one_round(plan, job, l, got, phase, (k + 1) as u16);
-        let more = sets::places::size_of(&next.words, used);
+        let more = next.len_in(used);
         if more == few {
             return next;
         }

@@ -5,4 +5,3 @@ pub mod Steps
 pub mod Holding
 pub mod Settling
 pub mod Planning
-pub mod Beginning

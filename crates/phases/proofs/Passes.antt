@@ -1,5 +1,5 @@
 -- The laws of a pass: over no place, over one place, and one pass after another; and the size of its set.
-use Prim.Native.Nat.{ℕ, ◌+◌, ◌/◌, ◌%◌, ◌≤◌, ◌<◌}
+use Prim.Native.Nat.{ℕ, ◌+◌, ◌*◌, ◌/◌, ◌%◌, ◌≤◌, ◌<◌}
 use mathlib.Core.Bool.{Bool, true, false, cond, ◌&&◌, or-false, and-true, and-false, ◌||◌, or-true}
 use mathlib.Core.List.{List}
 use mathlib.Core.Logic.{⊎_elim}
@@ -8,7 +8,7 @@ use native.Mathlib.Omega.{arith}
 use borrow.Author.Tests.{lt-ltb, le-ltb, le-leb, lt-leb, eq-eqb, ne_eqb}
 use lib.Dec.{leb, ltb, eqb}
 use lib.ListN.{get_or}
-use Rattle.sets.specs.Sets.{set_room, member, count, Put}
+use Rattle.sets.specs.Sets.{member, count, PutIn}
 use Rattle.rules.specs.Plan.{entry_byte, Wrote}
 use Rattle.game.specs.declared.entry.Entry.{Entry}
 use Rattle.sets.proofs.Bits.{below_or, same_or}
@@ -123,13 +123,13 @@ module _ {gains writes : ℕ → Bool} {says : ℕ → Entry} where
           bytes = λ y. rw (at_one writes false i w (y / 4));
         }
 
-    pub pass_put : {ws1 plan1 : List ℕ} → gains i ≡ true → writes i ≡ true → i < set_room → Put ws i ws1 → Wrote i (says i) plan plan1
+    pub pass_put : {n : ℕ} {ws1 plan1 : List ℕ} → gains i ≡ true → writes i ≡ true → i < 64 * n → PutIn n ws i ws1 → Wrote i (says i) plan plan1
         → Pass gains writes says i (i + 1) ws plan ws1 plan1
-    pass_put g w h p q =
+    pass_put {n} g w h p q =
         record {
           as_many = p.as_long;
           as_long = q.as_long;
-          joins = λ x. p.members x ∙ rw (lt-ltb i set_room h, at_one gains true i g x);
+          joins = λ x. p.members x ∙ rw (lt-ltb i (64 * n) h, at_one gains true i g x);
           bytes = one_wrote writes says w q;
         }
 
@@ -142,6 +142,23 @@ module _ {gains writes : ℕ → Bool} {says : ℕ → Entry} where
           joins = λ x. rw (at_one gains false i g x);
           bytes = one_wrote writes says w q;
         }
+
+-- a pass over one place that writes it, by what is known of that place
+pub pass_at : {accepted : Bool} {e : Entry} (gains : ℕ → Bool) (says : ℕ → Entry) {i : ℕ} {ws plan ws1 plan1 : List ℕ}
+    → gains i ≡ accepted → says i ≡ e → Pass (λ x. accepted) (λ x. true) (λ x. e) i (i + 1) ws plan ws1 plan1
+    → Pass gains (λ x. true) says i (i + 1) ws plan ws1 plan1
+pass_at {accepted} gains says {i} g s p =
+    record {
+      as_many = p.as_many;
+      as_long = p.as_long;
+      joins = λ x. p.joins x ∙ rw (at_one gains accepted i g x, at_one (λ k. accepted) accepted i refl x) refl;
+      bytes =
+          λ y. p.bytes y
+          ∙ ⊎_elim
+          (λ (e : y / 4 ≡ i). rw (e, s) refl)
+          (λ (n : y / 4 ≡ i → ⊥). rw (between_one i (y / 4), ne_eqb (y / 4) i n) refl)
+          (same_or (y / 4) i);
+    }
 
 -- ---- the set after a pass
 

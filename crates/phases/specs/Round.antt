@@ -1,5 +1,5 @@
 -- One round of a phase, and round 0.
-use Rattle.std.specs.Prelude.{ℕ, ◌*◌, Bool, true, false, cond, not, ◌&&◌, List, ◌≡◌, length}
+use Rattle.std.specs.Prelude.{ℕ, ◌+◌, ◌*◌, Bool, true, false, cond, not, ◌&&◌, List, ◌≡◌, length}
 use Rattle.sets.specs.Sets.{set_words, member}
 use Rattle.game.specs.Game.{says}
 use Rattle.game.specs.Below.{some_below}
@@ -31,13 +31,21 @@ module _ (b : List ℕ) (l : Layout) (v : Phase) (n : ℕ) (old : List ℕ) wher
   abbrev pub Passed : (lo hi : ℕ) (ws plan ws' plan' : List ℕ) → Type 0
   Passed = Pass adds adds new_entry
 
+-- what the entry of a place says after round 0, accepted or not
+abbrev pub begun_entry : Bool → Entry
+begun_entry accepted = cond accepted (says 2 255 0) (says 0 255 0)
+
+-- round 0 at one place, the one whose entry is i
+abbrev pub BegunAt : Bool → ℕ → (ws plan ws' plan' : List ℕ) → Type 0
+BegunAt accepted i = Pass (λ x. accepted) (λ x. true) (λ x. begun_entry accepted) i (i + 1)
+
 module _ (b : List ℕ) (l : Layout) where
   -- the place whose entry is x is accepted; what its entry then says
   abbrev pub met_at : ℕ → Bool
   met_at x = (arena (said b)).accepted (place_at l.goals x)
 
   abbrev pub first_entry : ℕ → Entry
-  first_entry x = cond (met_at x) (says 2 255 0) (says 0 255 0)
+  first_entry x = begun_entry (met_at x)
 
   -- round 0, over the places from lo up to hi
   abbrev pub Begun : (lo hi : ℕ) (ws plan ws' plan' : List ℕ) → Type 0

@@ -1,41 +1,30 @@
 // Round 0, where an engine begins: the accepted places, and an entry for every place.
 ghost use Rattle.std.specs.Prelude.{◌≡◌, ◌+◌, ◌*◌, ◌<◌, ◌≤◌, length};
-ghost use Rattle.sets.specs.Sets.{set_words};
 ghost use Rattle.job.specs.Layout.{Fit};
-ghost use Rattle.phases.specs.Round.{Begun, BegunAll};
+ghost use Rattle.phases.specs.Round.{BegunAt, BegunAll};
 
 use game::entry::Entry;
 use job::layout::Layout;
-use sets::places::{PlaceSet, WORDS};
+use rules::answer::Value;
+use sets::places::{PlaceSet, Places};
 
-// Round 0 at the place whose entry is i: an accepted one joins the set, and every entry is written.
-fn begin_place(new: &mut [u64; WORDS], plan: &mut [u8], job: &[u8], l: Layout, i: usize)
-    requires fit { Fit job.now l }
-    requires i_bound { i < l.states * l.goals }
-    requires len { length new.old ≡ set_words }
-    requires goals_in_bounds { 4 * (l.states * l.goals) ≤ length plan.old }
-    ensures { Begun job.now l i (i + 1) new.old plan.old new.new plan.new }
+// Round 0 at the place whose entry is i: an accepted one joins the set, and the entry is written either way.
+pub fn begin_place<const N: usize>(new: &mut Places<N>, plan: &mut [u8], i: usize, accepted: bool)
+    requires i_in_set { i < 64 * N }
+    requires i_in_bounds { 4 * i + 4 ≤ length plan.old }
+    ensures { BegunAt accepted i new.old.words plan.old new.new.words plan.new }
 {
-    if job::ask::is_accepted(job, l, i / l.goals, i % l.goals) {
-        sets::places::put_place(new, i);
-        let value = rules::answer::Value::Winning.number();
-        rules::entry::write_entry(
-            plan,
-            i,
-            Entry {
-                value,
-                action: 255,
-                number: 0,
-            },
-        );
-        return;
-    }
-    let value = rules::answer::Value::Losing.number();
+    let value = if accepted {
+        new.put(i);
+        Value::Winning
+    } else {
+        Value::Losing
+    };
     rules::entry::write_entry(
         plan,
         i,
         Entry {
-            value,
+            value: value.number(),
             action: 255,
             number: 0,
         },
@@ -48,13 +37,10 @@ pub fn begin(plan: &mut [u8], job: &[u8], l: Layout) -> PlaceSet
     requires goals_in_bounds { 4 * (l.states * l.goals) ≤ length plan.old }
     ensures { BegunAll job.now l plan.old result.words plan.new }
 {
-    let none = PlaceSet::empty();
-    let mut new = none.words;
-    let n = l.states * l.goals;
-    let mut i: usize = 0;
-    while i < n {
-        begin_place(&mut new, plan, job, l, i);
-        i += 1;
+    let mut new = PlaceSet::empty();
+    for i in 0..l.states * l.goals {
+        let accepted = job::ask::is_accepted(job, l, i / l.goals, i % l.goals);
+        begin_place(&mut new, plan, i, accepted);
     }
-    PlaceSet { words: new }
+    new
 }

@@ -1,20 +1,25 @@
 // The two phases of an engine.
 ghost use Rattle.std.specs.Prelude.{◌≡◌};
+ghost use Rattle.rules.specs.Answers.{value_number};
 ghost use Rattle.phases.specs.Wanted.{phase_value};
 
+use rules::answer::Value;
+
 // What a phase labels.
-#[derive(Clone, Copy)]
+#[derive(Clone, Copy, Debug, PartialEq, Eq)]
 pub enum Phase {
     Winning,
     Pending,
 }
 
 // The value that a phase's places have, in a plan.
-pub fn value_of(phase: Phase) -> u8
-    ensures { result ≡ phase_value phase }
-{
-    match phase {
-        Phase::Winning => rules::answer::Value::Winning.number(),
-        Phase::Pending => rules::answer::Value::Pending.number(),
+impl From<Phase> for Value {
+    ghost from_gives = { λ phase v. value_number v ≡ phase_value phase };
+
+    fn from(phase: Phase) -> Value {
+        match phase {
+            Phase::Winning => Value::Winning,
+            Phase::Pending => Value::Pending,
+        }
     }
 }

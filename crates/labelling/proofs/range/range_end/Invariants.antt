@@ -6,6 +6,3 @@ use Rattle.labelling.proofs.range.range_end.Given as goal
 
 abbrev pub invariant-loop-k : goal.invariant-loop-k
 invariant-loop-k l = Passing (said l.job) l.s l.start l.k
-
-abbrev pub decreases-loop-k : goal.decreases-loop-k
-decreases-loop-k l = l.n - l.k

@@ -6,27 +6,14 @@ use Rattle.phases.proofs.Passes.{pass_empty, pass_join}
 use Rattle.labelling.proofs.Rounding.{ready_on}
 use Rattle.labelling.proofs.round.label_state.Goals as goal
 
-pub loop-q-init : goal.loop-q-init
-loop-q-init c = (omega arith, pass_empty (omega arith))
-
-pub label_place-requires : goal.label_place-requires
-label_place-requires c =
-    record {
-      ready = ready_on c.requires c.loop-q.invariant.1;
-      q_lt_goals = c.loop-q-test.true;
-    }
-
 pub loop-q-preserved : goal.loop-q-preserved
 loop-q-preserved c =
     let x = c.args in
     let e : x.s * x.l.goals + (c.loop-q.q + 1) ≡ x.s * x.l.goals + c.loop-q.q + 1 = omega arith in
-    (omega arith, rw e (pass_join (omega arith) (omega arith) c.loop-q.invariant.1 c.label_place.ensures))
-
-pub shape_of-plan : goal.shape_of-plan
-shape_of-plan c = c.loop-q.invariant.1.as_long
+    rw e (pass_join (omega arith) (omega arith) c.loop-q.invariant c.label_place.ensures)
 
 pub returns : goal.returns
 returns c =
     let x = c.args in
     let e : x.s * x.l.goals + c.loop-q.q ≡ x.s * x.l.goals + x.l.goals = omega arith in
-    rw (← e) c.loop-q.invariant.1
+    rw (← e) c.loop-q.invariant

@@ -10,10 +10,5 @@ use Rattle.labelling.proofs.round.one_round.Given as goal
 
 abbrev pub invariant-loop-s : goal.invariant-loop-s
 invariant-loop-s l =
-    (l.s ≤ l.states)
-    × From (said l.job) l.s l.start
-    × (length l.initial.new ≡ set_words)
-    × Passed l.job l.l l.phase l.number l.set.words 0 (l.s * l.l.goals) l.initial.new l.initial.plan l.new l.plan
-
-abbrev pub decreases-loop-s : goal.decreases-loop-s
-decreases-loop-s l = l.states - l.s
+    From (said l.job) l.s l.start
+    × Passed l.job l.l l.phase l.number l.set.words 0 (l.s * l.l.goals) l.initial.new.words l.initial.plan l.new.words l.plan

@@ -11,17 +11,8 @@ use Rattle.phases.specs.Rounds.{NonePast}
 use Rattle.phases.proofs.Settling.{going_none, going_more, going_grows, going_past, going_stop}
 use Rattle.labelling.proofs.rounds.all_rounds.Goals as goal
 
-pub overflow_mul-n : goal.overflow_mul-n
-overflow_mul-n c = omega (arith, few_places c.requires.fit)
-
-pub words_for-used-requires : goal.words_for-used-requires
-words_for-used-requires c = few_places c.requires.fit
-
-pub size_of-few-requires : goal.size_of-few-requires
-size_of-few-requires c = c.words_for-used.ensures.1
-
 pub loop-few-init : goal.loop-few-init
-loop-few-init c = (omega arith, refl, c.size_of-few.ensures, c.requires.none_past, going_none _ _ _ _)
+loop-few-init c = (omega arith, refl, c.len_in-few.ensures, c.requires.none_past, going_none _ _ _ _)
 
 pub overflow_add-k : goal.overflow_add-k
 overflow_add-k c =
@@ -47,18 +38,10 @@ overflow_cast-k c =
     ) in
     omega (arith, c.loop-few.invariant.0, few-enough, few_places c.requires.fit)
 
-pub size_of-more-requires : goal.size_of-more-requires
-size_of-more-requires c = c.words_for-used.ensures.1
-
-pub shape_of-plan-then-more-few : goal.shape_of-plan-then-more-few
-shape_of-plan-then-more-few c =
-    -- c: the round is made; c: the loop's head
-    omega (arith, c.loop-few.invariant.1, c.one_round-next.ensures.as_long)
-
 pub returns-then-more-few : goal.returns-then-more-few
 returns-then-more-few c =
     going_stop c.requires.fit c.loop-few.invariant.4 c.one_round-next.ensures _
-    c.words_for-used.ensures.0 (sym c.size_of-more.ensures ∙ c.if-more-few.true ∙ c.loop-few.invariant.2)
+    c.words_for-used.ensures.0 (sym c.len_in-more.ensures ∙ c.if-more-few.true ∙ c.loop-few.invariant.2)
 
 pub overflow_add-k-in-loop-few : goal.overflow_add-k-in-loop-few
 overflow_add-k-in-loop-few c =
@@ -74,30 +57,30 @@ overflow_add-k-in-loop-few c =
 
 pub loop-few-smaller : goal.loop-few-smaller
 loop-few-smaller c =
-    let more : (c.loop-few.few < c.size_of-more.result) × NonePast (said c.args.job.now) c.one_round-next.result.words =
+    let more : (c.loop-few.few < c.len_in-more.result) × NonePast (said c.args.job.now) c.one_round-next.result.words =
     let u = c.words_for-used.result in (
-      omega (arith, c.loop-few.invariant.2, c.size_of-more.ensures, c.if-more-few.false, going_grows c.requires.fit c.loop-few.invariant.4 c.one_round-next.ensures (64 * u)),
+      omega (arith, c.loop-few.invariant.2, c.len_in-more.ensures, c.if-more-few.false, going_grows c.requires.fit c.loop-few.invariant.4 c.one_round-next.ensures (64 * u)),
       going_past c.requires.fit c.loop-few.invariant.4 c.one_round-next.ensures c.loop-few.invariant.3,
     ) in
     let u = c.words_for-used.result in
     omega (
       arith,
       (more).0,
-      c.size_of-more.ensures,
+      c.len_in-more.ensures,
       count_within (member c.one_round-next.result.words) _ (64 * u) (more).1,
       places_said c.requires.fit,
     )
 
 pub loop-few-preserved : goal.loop-few-preserved
 loop-few-preserved c =
-    let more : (c.loop-few.few < c.size_of-more.result) × NonePast (said c.args.job.now) c.one_round-next.result.words =
+    let more : (c.loop-few.few < c.len_in-more.result) × NonePast (said c.args.job.now) c.one_round-next.result.words =
     let u = c.words_for-used.result in (
-      omega (arith, c.loop-few.invariant.2, c.size_of-more.ensures, c.if-more-few.false, going_grows c.requires.fit c.loop-few.invariant.4 c.one_round-next.ensures (64 * u)),
+      omega (arith, c.loop-few.invariant.2, c.len_in-more.ensures, c.if-more-few.false, going_grows c.requires.fit c.loop-few.invariant.4 c.one_round-next.ensures (64 * u)),
       going_past c.requires.fit c.loop-few.invariant.4 c.one_round-next.ensures c.loop-few.invariant.3,
     ) in (
       omega (arith, c.loop-few.invariant.0, (more).0),
       omega (arith, c.loop-few.invariant.1, c.one_round-next.ensures.as_long),
-      c.size_of-more.ensures,
+      c.len_in-more.ensures,
       (more).1,
       going_more c.requires.fit c.loop-few.invariant.4 c.one_round-next.ensures,
     )

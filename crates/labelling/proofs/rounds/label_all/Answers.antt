@@ -4,16 +4,6 @@ use Rattle.phases.proofs.Holding.{holds_begin, holds_none_past}
 use Rattle.phases.proofs.Settling.{labelled_both}
 use Rattle.labelling.proofs.rounds.label_all.Goals as goal
 
-pub all_rounds-won-requires : goal.all_rounds-won-requires
-all_rounds-won-requires c =
-    let t = c.requires in
-    let h = holds_begin t.fit c.begin-first.ensures in
-    record {
-      fit = t.fit;
-      goals_in_bounds = omega (arith, t.goals_in_bounds, h.as_long);
-      none_past = holds_none_past h;
-    }
-
 pub all_rounds-all-requires : goal.all_rounds-all-requires
 all_rounds-all-requires c =
     let t = c.requires in

@@ -8,7 +8,4 @@ use Rattle.labelling.proofs.scan.scan.Given as goal
 
 abbrev pub invariant-loop-k : goal.invariant-loop-k
 invariant-loop-k l =
-    (l.start ≤ l.k) × (l.k ≤ l.end) × Scanning (said l.job) (in_set l.l.goals l.words) (place l.s l.q) l.k l.x
-
-abbrev pub decreases-loop-k : goal.decreases-loop-k
-decreases-loop-k l = l.end - l.k
+    Scanning (said l.job) (in_set l.l.goals l.places.words) (place l.s l.q) l.k l.x
