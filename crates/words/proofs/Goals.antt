@@ -4,9 +4,10 @@ use mathlib.Core.List.{List, []}
 use mathlib.Core.Path.{◌≡◌, refl, sym, ap, subst, ◌∙◌}
 use native.Mathlib.Omega.{arith}
 use lib.ListN.{length, take}
+use Rattle.std.specs.Prelude.{Option, Some, Result, Ok}
 use Rattle.rules.specs.Bytes.{said}
 use Rattle.slips.specs.Writing.{clauses, slips_refusal, Body, Writing, refused, written, written_refusal, written_length}
-use Rattle.slips.specs.declared.goal.Written.{Written}
+use Rattle.rules.specs.declared.answer.Refusal.{Refusal}
 use Rattle.slips.specs.Playing.{goal_body}
 use Rattle.slips.proofs.Written.{written_body}
 use Rattle.text.specs.Lines.{bytes}
@@ -30,11 +31,11 @@ taken : {s before : List ℕ} {p : ℕ} {after : List ℕ} {r n : ℕ} → Writi
 taken (refused h) z = absurd (h z)
 taken (written e x) z = e
 
-pub slips_of : {s before after : List ℕ} {p n q : ℕ} {w : Written} → length before ≡ 2080
-    → Writing s p before (written_refusal w) (written_length w) after → w ≡ Written.Bytes n → Slipped s p after (Aim.Body n q 0)
-slips_of {s} {before} {after} {p} {n} {q} {w} e x z =
-    let y : Writing s p before 0 n after = subst (λ (v : Written). Writing s p before (written_refusal v) (written_length v) after) z x in
-    slipped (subst (λ (k : ℕ). slips_refusal s p k ≡ 0) e (taken y refl)) (written_body y refl)
+pub slips_of : {s before after : List ℕ} {p : ℕ} {a : Aim} {w : Result ℕ Refusal} → length before ≡ 2080
+    → Writing s p before (written_refusal w) (written_length w) after → w ≡ Ok a.size → a.first ≡ 0 → Slipped s p after (Some a)
+slips_of {s} {before} {after} {p} {a} {w} e x z first =
+    let y : Writing s p before 0 a.size after = subst (λ (v : Result ℕ Refusal). Writing s p before (written_refusal v) (written_length v) after) z x in
+    slipped (subst (λ (k : ℕ). slips_refusal s p k ≡ 0) e (taken y refl)) (written_body y refl) first
 
 -- no bytes are no slips
 some_clause : (s : List ℕ) (p : ℕ) → slips_refusal s p 2080 ≡ 0 → s ≡ [] → ⊥
@@ -45,34 +46,34 @@ some_clause s p z e =
 -- ---- the goal of a text
 
 module _ {facts goals : List (List ℕ)} {t body : List ℕ} {p : ℕ} where
-  by_slips : {r : Aim} → Slipped (clauses_said facts (lines t)) p body r → Aims facts goals t p body r
-  by_slips (slipped {n} {q} z x) = aims goal
+  by_slips : {r : Option Aim} → Slipped (clauses_said facts (lines t)) p body r → Aims facts goals t p body r
+  by_slips (slipped {a} z x none) = aims goal
     where
-      goal : (b : List ℕ) → (said b).propositions ≡ p → (said b).goals ≡ q → Aimed b body n 0 → Goal facts goals t b
+      goal : (b : List ℕ) → (said b).propositions ≡ p → (said b).goals ≡ a.goals → Aimed b body a.size a.first → Goal facts goals t b
       goal b ep eq y =
           by_clauses (some_clause (clauses_said facts (lines t)) p z) (subst (λ (k : ℕ). slips_refusal (clauses_said facts (lines t)) k 2080 ≡ 0) (sym ep) z)
           record {
             body =
                 subst (λ (k : ℕ). Body (clauses (clauses_said facts (lines t))) k (goal_body b)) (sym ep)
                 (subst (Body (clauses (clauses_said facts (lines t))) p) (sym y.same_body) x);
-            first = y.same_first;
+            first = y.same_first ∙ none;
           }
   by_slips unslipped = aimless
 
   -- from slips that are all the clauses that the lines say
-  pub clauses_aim : {before slip : List ℕ} {k : ℕ} {r : Aim} → PutText before 0 (clauses_said facts (lines t)) slip k → k < length before
+  pub clauses_aim : {before slip : List ℕ} {k : ℕ} {r : Option Aim} → PutText before 0 (clauses_said facts (lines t)) slip k → k < length before
       → Slipped (take k slip) p body r → Aims facts goals t p body r
   clauses_aim {r = r} x h y = by_slips (subst (λ (s : List ℕ). Slipped s p body r) (put_short x h).0 y)
 
 -- where no clause is put, the goal is the table's
-pub table_aims : (t facts goals : List ℕ) (f g : ℕ) {before slip old body : List ℕ} {k n first : ℕ}
+pub table_aims : (t facts goals : List ℕ) (f g : ℕ) {before slip old body : List ℕ} {k : ℕ} {a : Aim}
     → PutText before 0 (clauses_said (table t facts f) (lines t)) slip k → k ≡ 0 → 0 < length before
-    → TableWritten t facts goals f g old body n → first ≡ given (bytes "first") (table t goals g) (lines t)
-    → Aims (table t facts f) (table t goals g) t f body (Aim.Body n g first)
-table_aims t facts goals f g {slip = slip} x z h w e =
+    → TableWritten t facts goals f g old body a.size → a.goals ≡ g → a.first ≡ given (bytes "first") (table t goals g) (lines t)
+    → Aims (table t facts f) (table t goals g) t f body (Some a)
+table_aims t facts goals f g {slip = slip} {body = body} {a = a} x z h w eg e =
     aims
     (λ b ep eq y.
-    by_table none (eq ∙ sym (table_length t goals 0 g)) (y.same_first ∙ e)
+    by_table none (eq ∙ (eg ∙ sym (table_length t goals 0 g))) (y.same_first ∙ e)
     (subst (λ (k : ℕ). TableBody (table t facts f) (table t goals g) (lines t) k (goal_body b)) (sym ep)
     (subst (TableBody (table t facts f) (table t goals g) (lines t) f) (sym y.same_body) w.body)))
   where

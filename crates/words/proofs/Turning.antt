@@ -9,9 +9,12 @@ use lib.ListN.{length, get_or, replicate, length-replicate}
 use Rattle.sets.specs.Sets.{bit}
 use Rattle.sets.proofs.Bits.{bit_none}
 use Rattle.rules.specs.Bytes.{said}
+use Rattle.std.specs.Prelude.{Option, Some, Result, Err}
 use Rattle.job.specs.Layout.{Fit}
+use Rattle.job.specs.Forms.{named_form}
+use Rattle.job.specs.declared.form.Form.{Form}
 use Rattle.job.specs.declared.layout.Layout.{Layout}
-use Rattle.job.proofs.Asking.{states_said, actions_said, propositions_said, goals_said, records_said, tall_said}
+use Rattle.job.proofs.Asking.{states_said, actions_said, propositions_said, goals_said, records_said, form_said}
 use Rattle.text.specs.Lines.{bytes}
 use Rattle.lines.specs.Words.{lines}
 use Rattle.lines.specs.Names.{Lie, Holds, table, table_from, names}
@@ -26,7 +29,7 @@ use Rattle.whole.specs.Whole.{whole}
 use Rattle.words.specs.Turned.{Job, Answers, Told, a_job, faulty}
 use Rattle.words.specs.Within.{Aims, aims, Counted, Same, Sames, same, other, Sound, Sounds, sound, blamed}
 use Rattle.words.specs.declared.goal.Aim.{Aim}
-use Rattle.words.specs.declared.turn.Turned.{Turned}
+use Rattle.words.specs.declared.turn.Faults.{Faults}
 
 -- ---- an empty set, and what was put to it
 
@@ -70,14 +73,26 @@ module _ {states actions facts goals : List (List ℕ)} {t labels moves : List �
         goal = x.of_goal;
       }
 
-  turned : {out : List ℕ} {r : Turned} → Sounds states actions facts goals t labels moves out r → Answers states actions facts goals t out r
+  turned : {out : List ℕ} {r : Result ℕ Faults} → Sounds states actions facts goals t labels moves out r → Answers states actions facts goals t out r
   turned (sound h x) = a_job h (job_said x)
   turned blamed = faulty
 
 -- ---- a job that was read, and is the one that was meant
 
+-- a form is named by one truth alone
+abbrev in_tall_form : Form → Bool
+in_tall_form Form.Old = false
+in_tall_form Form.Tall = true
+
+named_back : (x : Bool) → in_tall_form (named_form x) ≡ x
+named_back true = refl
+named_back false = refl
+
+same_form : {x y : Bool} → named_form x ≡ named_form y → x ≡ y
+same_form {x} {y} e = sym (named_back x) ∙ (ap in_tall_form e ∙ named_back y)
+
 pub same_job : {b labels moves body : List ℕ} {l : Layout} {z : Sizes} → Fit b l → Counted l z
-    → l.tall ≡ (ltb 128 l.states || ltb 4096 l.records) → (said b).first ≡ z.start
+    → l.form ≡ named_form (ltb 128 l.states || ltb 4096 l.records) → (said b).first ≡ z.start
     → Aimed b body z.goal z.first → Meant b labels moves → Same z labels moves body b
 same_job {b} {l = l} fit e form start goal m =
     record {
@@ -87,24 +102,24 @@ same_job {b} {l = l} fit e form start goal m =
       of_facts = sym (propositions_said fit) ∙ e.facts_counted;
       of_goals = sym (goals_said fit) ∙ e.goals_counted;
       of_form =
-          sym (tall_said fit)
-          ∙ (form
-          ∙ (ap (λ (x : ℕ). ltb 128 x || ltb 4096 l.records) (states_said fit) ∙ ap (λ (x : ℕ). ltb 128 (said b).states || ltb 4096 x) (records_said fit)));
+          same_form (sym (form_said fit) ∙ form)
+          ∙ (ap (λ (x : ℕ). ltb 128 x || ltb 4096 l.records) (states_said fit) ∙ ap (λ (x : ℕ). ltb 128 (said b).states || ltb 4096 x) (records_said fit));
       of_start = start;
       of_goal = goal;
     }
 
 -- a job with the numbers, labels, moves and Goal body of a text has its start and its goal
-pub sounds_same : (t states : List ℕ) (s : ℕ) (actions facts goals : List ℕ) (g : ℕ) {z : Sizes} {labels moves body out : List ℕ} {w : Aim} {r : Turned}
-    → Aims (table t facts z.facts) (table t goals g) t z.facts body w → w ≡ Aim.Body z.goal z.goals z.first
+pub sounds_same : (t states : List ℕ) (s : ℕ) (actions facts goals : List ℕ) (g : ℕ) {z : Sizes} {labels moves body out : List ℕ} {w : Option Aim} {a : Aim}
+    {r : Result ℕ Faults} → Aims (table t facts z.facts) (table t goals g) t z.facts body w → w ≡ Some a
+    → z.goal ≡ a.size → z.goals ≡ a.goals → z.first ≡ a.first
     → z.states ≡ s → whole (table t states s) (table t actions z.actions) (table t facts z.facts) (lines t) ≡ true
     → z.start ≡ given (bytes "start") (table t states s) (lines t) → Sames z labels moves body out r
     → Sounds (table t states s) (table t actions z.actions) (table t facts z.facts) (table t goals g) t labels moves out r
-sounds_same t states s actions facts goals g {z} {body = body} x e es ew eb y =
+sounds_same t states s actions facts goals g {z} {body = body} {a = a} x e en eg ef es ew eb y =
     go (subst (Aims (table t facts z.facts) (table t goals g) t z.facts body) e x) y
   where
-    go : {labels moves out : List ℕ} {r : Turned}
-        → Aims (table t facts z.facts) (table t goals g) t z.facts body (Aim.Body z.goal z.goals z.first)
+    go : {labels moves out : List ℕ} {r : Result ℕ Faults}
+        → Aims (table t facts z.facts) (table t goals g) t z.facts body (Some a)
         → Sames z labels moves body out r
         → Sounds (table t states s) (table t actions z.actions) (table t facts z.facts) (table t goals g) t labels moves out r
     go (aims f) (same h q) =
@@ -117,7 +132,7 @@ sounds_same t states s actions facts goals g {z} {body = body} x e es ew eb y =
           of_form = q.of_form;
           of_whole = ew;
           of_start = q.of_start ∙ eb;
-          of_goal = f _ q.of_facts q.of_goals q.of_goal;
+          of_goal = f _ q.of_facts (q.of_goals ∙ eg) (rw (sym en, sym ef) q.of_goal);
         }
     go (aims f) other = blamed
 
@@ -147,7 +162,7 @@ busy_table = refl
 -- ---- from what was gathered to what the lines say
 
 pub turned_named : (t states : List ℕ) (s : ℕ) (actions : List ℕ) (a : ℕ) (facts : List ℕ) (f : ℕ) (goals : List ℕ) (g : ℕ)
-    {first labels moves out : List ℕ} {r : Turned}
+    {first labels moves out : List ℕ} {r : Result ℕ Faults}
     → Gains (replicate 512 0) first (λ j. some_of (says_fact (table t states s) (table t facts f) 0 j) (lines t))
     → Gains first labels (λ j. some_of (says_fact (table t states s) (table busy_text busy_spans 1) 7 j) (lines t))
     → Gains (replicate 524288 0) moves (λ j. some_of (says_move (table t states s) (table t actions a) j) (lines t))
@@ -175,7 +190,7 @@ few room k {after = after} {n = n} e h =
     let q : length after ≡ room = h.as_long ∙ length-replicate {A = ℕ} room 0 in
     omega arith
 
-pub answered : {t out : List ℕ} {r : Turned} {s s' a a' f f' g g' : List (List ℕ)} → s ≡ s' → a ≡ a' → f ≡ f' → g ≡ g'
+pub answered : {t out : List ℕ} {r : Result ℕ Faults} {s s' a a' f f' g g' : List (List ℕ)} → s ≡ s' → a ≡ a' → f ≡ f' → g ≡ g'
     → Answers s a f g t out r → Answers s' a' f' g' t out r
 answered {t} {out} {r} {s} {s'} {a} {a'} {f} {f'} {g} {g'} es ea ef eg x =
     subst (λ (y : List (List ℕ)). Answers y a' f' g' t out r) es
@@ -183,9 +198,9 @@ answered {t} {out} {r} {s} {s'} {a} {a'} {f} {f'} {g} {g'} es ea ef eg x =
     (subst (λ (y : List (List ℕ)). Answers s a y g' t out r) ef (subst (λ (y : List (List ℕ)). Answers s a f y t out r) eg x)))
 
 -- an answer that is the same promises the same
-pub same_answer : {t out : List ℕ} {r r' : Turned} {s a f g : List (List ℕ)} → r ≡ r' → Answers s a f g t out r → Answers s a f g t out r'
-same_answer {t} {out} {s = s} {a} {f} {g} e x = subst (λ (y : Turned). Answers s a f g t out y) e x
+pub same_answer : {t out : List ℕ} {r r' : Result ℕ Faults} {s a f g : List (List ℕ)} → r ≡ r' → Answers s a f g t out r → Answers s a f g t out r'
+same_answer {t} {out} {s = s} {a} {f} {g} e x = subst (λ (y : Result ℕ Faults). Answers s a f g t out y) e x
 
 -- what is told in a buffer is told in one that is as long
-pub told_long : {m n k : ℕ} → m ≡ n → Told m (Turned.Faults k) → Told n (Turned.Faults k)
-told_long {k = k} e x = subst (λ (y : ℕ). Told y (Turned.Faults k)) e x
+pub told_long : {m n : ℕ} {f : Faults} → m ≡ n → Told m (Err f) → Told n (Err f)
+told_long {f = f} e x = subst (λ (y : ℕ). Told y (Err f)) e x

@@ -1,6 +1,6 @@
 -- What a job that was written from a text promises: it keeps the rules, and its states, actions, facts, records, labels, start and goal are those
 -- that the text's lines say.
-use Rattle.std.specs.Prelude.{ℕ, ◌+◌, ◌*◌, ◌≤◌, ◌<◌, true, ◌||◌, List, [], ◌∷◌, ◌≡◌, ltb, length, take}
+use Rattle.std.specs.Prelude.{ℕ, ◌+◌, ◌*◌, ◌≤◌, ◌<◌, true, ◌||◌, List, [], ◌∷◌, ◌≡◌, ltb, length, take, Result, Ok, Err}
 use Rattle.sets.specs.Sets.{bit}
 use Rattle.rules.specs.Job.{recorded}
 use Rattle.rules.specs.Bytes.{is_tall, byte, said}
@@ -14,7 +14,7 @@ use Rattle.lines.specs.Says.{some_of, says_move, says_fact, number}
 use Rattle.aims.specs.Aims.{given, clauses_said}
 use Rattle.rows.specs.Rows.{TableBody}
 use Rattle.whole.specs.Whole.{whole}
-use Rattle.words.specs.declared.turn.Turned.{Turned}
+use Rattle.words.specs.declared.turn.Faults.{Faults}
 
 -- the names that a text lists: of states the first 512, of actions the first 16, of facts the first 6, of goal states the first 32; a text that
 -- lists more is a faulty one
@@ -60,11 +60,11 @@ pub record Job (states actions facts goals : List (List ℕ)) (t b : List ℕ) :
   pub goal : Goal facts goals t b
 
 -- What turning answers: the first n bytes of the output are the job of the text, or it has faults, which are told.
-pub data Answers (states actions facts goals : List (List ℕ)) (t out : List ℕ) : Turned → Type 0 where
-  a_job : {n : ℕ} → n ≤ length out → Job states actions facts goals t (take n out) → Answers states actions facts goals t out (Turned.Job n)
-  faulty : {n : ℕ} → Answers states actions facts goals t out (Turned.Faults n)
+pub data Answers (states actions facts goals : List (List ℕ)) (t out : List ℕ) : Result ℕ Faults → Type 0 where
+  a_job : {n : ℕ} → n ≤ length out → Job states actions facts goals t (take n out) → Answers states actions facts goals t out (Ok n)
+  faulty : {f : Faults} → Answers states actions facts goals t out (Err f)
 
 -- Where a text has faults, some byte is told of them in a buffer that has room for one, and no more than it has room for.
-abbrev pub Told : ℕ → Turned → Type 0
-Told room (Turned.Job n) = Unit {0}
-Told room (Turned.Faults n) = (n ≤ room) × (1 ≤ room → 1 ≤ n)
+abbrev pub Told : ℕ → Result ℕ Faults → Type 0
+Told room (Ok n) = Unit {0}
+Told room (Err f) = (f.told ≤ room) × (1 ≤ room → 1 ≤ f.told)

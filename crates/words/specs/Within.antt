@@ -1,5 +1,5 @@
 -- What the parts of turning promise to one another: a goal's body in bytes, a job that has given numbers, and one that has a text's start and goal.
-use Rattle.std.specs.Prelude.{ℕ, ◌≤◌, true, ◌||◌, List, ◌≡◌, ltb, length, take}
+use Rattle.std.specs.Prelude.{ℕ, ◌≤◌, true, ◌||◌, List, ◌≡◌, ltb, length, take, Option, Some, None, Result, Ok, Err}
 use Rattle.rules.specs.Bytes.{is_tall, said}
 use Rattle.slips.specs.Writing.{clauses, slips_refusal, Body}
 use Rattle.laid.specs.declared.whole.Sizes.{Sizes}
@@ -12,20 +12,20 @@ use Rattle.meant.specs.Meant.{Meant}
 use Rattle.meant.specs.Aimed.{Aimed}
 use Rattle.words.specs.Turned.{Goal}
 use Rattle.words.specs.declared.goal.Aim.{Aim}
-use Rattle.words.specs.declared.turn.Turned.{Turned}
+use Rattle.words.specs.declared.turn.Faults.{Faults}
 
 -- ---- a goal's body
 
 -- the first n bytes are the body of slips, which no number refuses
-pub data Slipped (s : List ℕ) (p : ℕ) (body : List ℕ) : Aim → Type 0 where
-  slipped : {n q : ℕ} → slips_refusal s p 2080 ≡ 0 → Body (clauses s) p (take n body) → Slipped s p body (Aim.Body n q 0)
-  unslipped : Slipped s p body Aim.Nothing
+pub data Slipped (s : List ℕ) (p : ℕ) (body : List ℕ) : Option Aim → Type 0 where
+  slipped : {a : Aim} → slips_refusal s p 2080 ≡ 0 → Body (clauses s) p (take a.size body) → a.first ≡ 0 → Slipped s p body (Some a)
+  unslipped : Slipped s p body None
 
 -- a job with P propositions, so many goal states, this first one and the first n bytes as its Goal body has the goal of the text
-pub data Aims (facts goals : List (List ℕ)) (t : List ℕ) (p : ℕ) (body : List ℕ) : Aim → Type 0 where
-  aims : {n q first : ℕ} → ((b : List ℕ) → (said b).propositions ≡ p → (said b).goals ≡ q → Aimed b body n first → Goal facts goals t b)
-      → Aims facts goals t p body (Aim.Body n q first)
-  aimless : Aims facts goals t p body Aim.Nothing
+pub data Aims (facts goals : List (List ℕ)) (t : List ℕ) (p : ℕ) (body : List ℕ) : Option Aim → Type 0 where
+  aims : {a : Aim} → ((b : List ℕ) → (said b).propositions ≡ p → (said b).goals ≡ a.goals → Aimed b body a.size a.first → Goal facts goals t b)
+      → Aims facts goals t p body (Some a)
+  aimless : Aims facts goals t p body None
 
 -- ---- a job that has given numbers
 
@@ -47,9 +47,9 @@ pub record Same (z : Sizes) (labels moves body b : List ℕ) : Type 0 where
   pub of_start : (said b).first ≡ z.start
   pub of_goal : Aimed b body z.goal z.first
 
-pub data Sames (z : Sizes) (labels moves body out : List ℕ) : Turned → Type 0 where
-  same : {n : ℕ} → n ≤ length out → Same z labels moves body (take n out) → Sames z labels moves body out (Turned.Job n)
-  other : {n : ℕ} → Sames z labels moves body out (Turned.Faults n)
+pub data Sames (z : Sizes) (labels moves body out : List ℕ) : Result ℕ Faults → Type 0 where
+  same : {n : ℕ} → n ≤ length out → Same z labels moves body (take n out) → Sames z labels moves body out (Ok n)
+  other : {f : Faults} → Sames z labels moves body out (Err f)
 
 -- ---- a job that has a text's start and goal, and given labels and moves
 
@@ -63,7 +63,7 @@ pub record Sound (states actions facts goals : List (List ℕ)) (t labels moves 
   pub of_start : (said b).first ≡ given (bytes "start") states (lines t)
   pub of_goal : Goal facts goals t b
 
-pub data Sounds (states actions facts goals : List (List ℕ)) (t labels moves out : List ℕ) : Turned → Type 0 where
+pub data Sounds (states actions facts goals : List (List ℕ)) (t labels moves out : List ℕ) : Result ℕ Faults → Type 0 where
   sound : {n : ℕ} → n ≤ length out → Sound states actions facts goals t labels moves (take n out)
-      → Sounds states actions facts goals t labels moves out (Turned.Job n)
-  blamed : {n : ℕ} → Sounds states actions facts goals t labels moves out (Turned.Faults n)
+      → Sounds states actions facts goals t labels moves out (Ok n)
+  blamed : {f : Faults} → Sounds states actions facts goals t labels moves out (Err f)

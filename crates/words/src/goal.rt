@@ -4,17 +4,12 @@ ghost use Rattle.lines.specs.Names.{table};
 ghost use Rattle.rows.specs.Cells.{Named};
 ghost use Rattle.words.specs.Within.{Slipped, Aims};
 
-use slips::goal::Written;
-
-// What is written of a goal: how many bytes its body has, how many goal states, and which is the first; or nothing, where clauses are no slips.
-#[derive(Clone, Copy)]
-pub enum Aim {
-    Body {
-        size: usize,
-        goals: usize,
-        first: usize,
-    },
-    Nothing,
+/// What is written of a goal: how many bytes its body has, how many goal states, and which is the first.
+#[derive(Clone, Copy, Debug, PartialEq, Eq)]
+pub struct Aim {
+    pub size: usize,
+    pub goals: usize,
+    pub first: usize,
 }
 
 // How many goal states slips of so many bytes have.
@@ -26,23 +21,24 @@ fn goals_of(bytes: usize) -> usize {
     }
 }
 
-// Writes the body of slips.
-fn write_slips(body: &mut [u8], slip: &[u8], f: usize) -> Aim
+// Writes the body of slips; none where clauses are no slips.
+fn write_slips(body: &mut [u8], slip: &[u8], f: usize) -> Option<Aim>
     requires { length body.old ≡ 2080 }
     ensures { Slipped slip.now f body.new result }
 {
     let goals = goals_of(slip.len());
     match slips::goal::write_goal(body, slip, f) {
-        Written::Bytes(size) => Aim::Body {
+        Ok(size) => Some(Aim {
             size,
             goals,
             first: 0,
-        },
-        Written::Refused(_) => Aim::Nothing,
+        }),
+        Err(_) => None,
     }
 }
 
-// Writes the body of the goal that a text says. A slip has room for one clause more than a goal may have, by which too many are known.
+/// Writes the body of the goal that a text says; none where its clauses are no slips. A slip has room for one clause more than a goal may
+/// have, by which too many are known.
 pub fn write_goal(
     body: &mut [u8],
     text: &[u8],
@@ -50,7 +46,7 @@ pub fn write_goal(
     f: usize,
     goals: &[usize],
     g: usize,
-) -> Aim
+) -> Option<Aim>
     requires named { Named text.now facts.now goals.now f g }
     requires body_len { length body.old ≡ 2080 }
     ensures { Aims (table text.now facts.now f) (table text.now goals.now g)
@@ -60,15 +56,15 @@ pub fn write_goal(
     let k = aims::clauses(&mut slip, text, facts, f);
     if k == 0 {
         let size = rows::table::write_table(body, text, facts, f, goals, g);
-        let first = aims::given(text, b"first", goals, g);
-        return Aim::Body {
+        let first = aims::given(text, b"first", goals, g).unwrap_or(g);
+        return Some(Aim {
             size,
             goals: g,
             first,
-        };
+        });
     }
     if 12 <= k {
-        return Aim::Nothing;
+        return None;
     }
     write_slips(body, &slip[..k], f)
 }

@@ -1,66 +1,56 @@
 // A text in words turned into a job, or into lines that tell its faults.
-ghost use Rattle.std.specs.Prelude.{◌≡◌, true, ◌||◌, ltb, ◌≤◌, length};
+ghost use Rattle.std.specs.Prelude.{◌≡◌, true, ◌||◌, ltb, ◌≤◌, length, Err};
 ghost use Rattle.job.specs.Layout.{Fit};
+ghost use Rattle.job.specs.Forms.{named_form};
 ghost use Rattle.lines.specs.Words.{lines};
 ghost use Rattle.lines.specs.Names.{Lie, table};
 ghost use Rattle.whole.specs.Whole.{whole};
 ghost use Rattle.rows.specs.Cells.{Named};
 ghost use Rattle.phrases.specs.Tables.{Tables};
-ghost use Rattle.words.specs.declared.turn.Turned.{Turned};
 ghost use Rattle.words.specs.Turned.{Answers, Told, state_names, action_names, fact_names, goal_names};
 ghost use Rattle.words.specs.Within.{Counted, Same, Sames, Sounds};
 
 use crate::goal::Aim;
-use faults::fault::Seen;
-use job::layout::{Layout, Reading};
+use faults::fault::Report;
+use job::form::Form;
+use job::layout::Layout;
 use laid::whole::Sizes;
+use text::Line;
 
-// What turning answers: how many bytes the job has, or the lines that tell the faults.
-#[derive(Clone, Copy)]
-pub enum Turned {
-    Job(usize),
-    Faults(usize),
+/// A text has faults, of which so many bytes are told.
+#[derive(Clone, Copy, Debug, PartialEq, Eq)]
+pub struct Faults {
+    pub told: usize,
 }
 
 // Tells that a fault lies in this program, and not in the text.
-fn blame(told: &mut [u8]) -> usize
-    ensures { Told (length told.old) (Turned.Faults result) }
+fn blame(told: &mut [u8]) -> Faults
+    ensures { Told (length told.old) (Err result) }
 {
-    text::put_word(
-        told,
-        0,
-        b"the job that was written does not read as the text; please report this text\n",
-    )
+    let mut line = Line { bytes: told, at: 0 };
+    line.put_word(b"the job that was written does not read as the text; please report this text\n");
+    Faults { told: line.at }
 }
 
 // Whether a job has so many states, actions, facts and goal states.
 fn has_counts(l: Layout, z: Sizes) -> bool
     ensures { result ≡ true → Counted l z }
 {
-    if l.states != z.states {
-        return false;
-    }
-    if l.actions as usize != z.actions {
-        return false;
-    }
-    if l.propositions as usize != z.facts {
-        return false;
-    }
-    if l.goals != z.goals {
-        return false;
-    }
-    true
+    l.states == z.states
+        && usize::from(l.actions) == z.actions
+        && usize::from(l.propositions) == z.facts
+        && l.goals == z.goals
 }
 
 // Whether a job has the old form where that fits, and the tall one otherwise.
 fn is_form(l: Layout) -> bool
-    ensures { result ≡ true → l.tall ≡ (ltb 128 l.states || ltb 4096 l.records) }
+    ensures { result ≡ true → l.form ≡ named_form (ltb 128 l.states || ltb 4096 l.records) }
 {
     let tall = laid::whole::is_tall(l.states, l.records);
-    if l.tall {
-        return tall;
+    match l.form {
+        Form::Old => !tall,
+        Form::Tall => tall,
     }
-    !tall
 }
 
 // Whether a job that was read is the one that was meant.
@@ -69,19 +59,11 @@ fn is_meant(job: &[u8], l: Layout, z: Sizes, body: &[u8], labels: &[u8], moves: 
     requires labels_len { (length labels.now ≡ 512) × (length moves.now ≡ 524288) }
     ensures { result ≡ true → Same z labels.now moves.now body.now job.now }
 {
-    if !has_counts(l, z) {
-        return false;
-    }
-    if !is_form(l) {
-        return false;
-    }
-    if !meant::goal::is_start(l, z.start) {
-        return false;
-    }
-    if !meant::goal::is_goal(job, l, body, z.goal, z.first) {
-        return false;
-    }
-    meant::is_right(job, l, labels, moves)
+    has_counts(l, z)
+        && is_form(l)
+        && meant::goal::is_start(l, z.start)
+        && meant::goal::is_goal(job, l, body, z.goal, z.first)
+        && meant::is_right(job, l, labels, moves)
 }
 
 // Whether the bytes are a job, and the one that was meant.
@@ -90,8 +72,8 @@ fn is_job(job: &[u8], z: Sizes, body: &[u8], labels: &[u8], moves: &[u8]) -> boo
     ensures { result ≡ true → Same z labels.now moves.now body.now job.now }
 {
     match job::accept::read(job) {
-        Reading::Refused(_) => false,
-        Reading::Job(l) => is_meant(job, l, z, body, labels, moves),
+        Ok(l) => is_meant(job, l, z, body, labels, moves),
+        Err(_) => false,
     }
 }
 
@@ -99,10 +81,7 @@ fn is_job(job: &[u8], z: Sizes, body: &[u8], labels: &[u8], moves: &[u8]) -> boo
 fn write_job(out: &mut [u8], z: Sizes, body: &[u8], labels: &[u8], moves: &[u8]) -> usize
     requires { (z.states ≤ 512) × (length labels.now ≡ 512) × (length moves.now ≡ 524288) }
 {
-    if 8192 < z.moves {
-        return 0;
-    }
-    if body.len() < z.goal {
+    if 8192 < z.moves || body.len() < z.goal {
         return 0;
     }
     laid::whole::write(out, z, labels, moves, body)
@@ -116,18 +95,18 @@ fn finish(
     body: &[u8],
     labels: &[u8],
     moves: &[u8],
-) -> Turned
+) -> Result<usize, Faults>
     requires { (z.states ≤ 512) × (length labels.now ≡ 512) × (length moves.now ≡ 524288) }
     ensures { Sames z labels.now moves.now body.now out.new result }
 {
     let n = write_job(out, z, body, labels, moves);
     if out.len() < n {
-        return Turned::Faults(blame(told));
+        return Err(blame(told));
     }
     if is_job(&out[..n], z, body, labels, moves) {
-        return Turned::Job(n);
+        return Ok(n);
     }
-    Turned::Faults(blame(told))
+    Err(blame(told))
 }
 
 // Turns a text without faults, of whose lines no word is skipped and which has n moves.
@@ -146,7 +125,7 @@ fn turn_whole(
     labels: &[u8],
     moves: &[u8],
     n: usize,
-) -> Turned
+) -> Result<usize, Faults>
     requires lie { (Lie text.now states.now s) × (s ≤ 512) × (Named text.now facts.now goals.now f g) }
     requires labels_len { (length labels.now ≡ 512) × (length moves.now ≡ 524288) }
     requires text_value { whole (table text.now states.now s) (table text.now actions.now a) (table text.now facts.now f) (lines text.now) ≡ true }
@@ -154,65 +133,23 @@ fn turn_whole(
         (table text.now facts.now f)
         (table text.now goals.now g) text.now labels.now moves.now out.new result }
 {
-    let start = aims::given(text, b"start", states, s);
-    let tall = laid::whole::is_tall(s, n);
+    let start = aims::given(text, b"start", states, s).unwrap_or(s);
     let mut body = [0u8; 2080];
-    match crate::goal::write_goal(&mut body, text, facts, f, goals, g) {
-        Aim::Nothing => Turned::Faults(blame(told)),
-        Aim::Body { size, goals, first } => {
-            let z = Sizes {
-                tall,
-                states: s,
-                actions: a,
-                facts: f,
-                goals,
-                start,
-                first,
-                moves: n,
-                goal: size,
-            };
-            finish(out, told, z, &body, labels, moves)
-        }
-    }
-}
-
-// Whether a fault was told or counted.
-fn is_faulty(seen: Seen) -> bool {
-    if 0 < seen.at {
-        return true;
-    }
-    0 < seen.more
-}
-
-// Looks at each line of a text and at the whole for faults, where it has n moves.
-fn check(
-    told: &mut [u8],
-    text: &[u8],
-    states: &[usize],
-    s: usize,
-    actions: &[usize],
-    a: usize,
-    facts: &[usize],
-    f: usize,
-    goals: &[usize],
-    g: usize,
-    n: usize,
-) -> Seen
-    requires { Tables text.now states.now s actions.now a facts.now f goals.now g }
-{
-    let none = Seen {
-        at: 0,
-        more: 0,
-        has_start: false,
-        has_first: false,
-        has_final: false,
-        clauses: 0,
-        has_row: false,
+    let Some(aim) = crate::goal::write_goal(&mut body, text, facts, f, goals, g) else {
+        return Err(blame(told));
     };
-    let seen = each_line::line::check_lines(
-        told, none, text, states, s, actions, a, facts, f, goals, g,
-    );
-    laid::lack::check_whole(told, seen, s, a, g, n)
+    let z = Sizes {
+        tall: laid::whole::is_tall(s, n),
+        states: s,
+        actions: a,
+        facts: f,
+        goals: aim.goals,
+        start,
+        first: aim.first,
+        moves: n,
+        goal: aim.size,
+    };
+    finish(out, told, z, &body, labels, moves)
 }
 
 // Tells the faults, or writes the job.
@@ -230,7 +167,7 @@ fn turn_said(
     g: usize,
     labels: &[u8],
     moves: &[u8],
-) -> Turned
+) -> Result<usize, Faults>
     requires tables { Tables text.now states.now s actions.now a facts.now f goals.now g }
     requires labels_len { (length labels.now ≡ 512) × (length moves.now ≡ 524288) }
     ensures { Sounds (table text.now states.now s) (table text.now actions.now a)
@@ -238,12 +175,16 @@ fn turn_said(
         (table text.now goals.now g) text.now labels.now moves.now out.new result }
 {
     let n = laid::whole::count(moves);
-    let seen = check(told, text, states, s, actions, a, facts, f, goals, g, n);
-    if is_faulty(seen) {
-        return Turned::Faults(faults::fault::say_more(told, seen));
+    let mut report = Report::new(told);
+    each_line::line::check_lines(&mut report, text, states, s, actions, a, facts, f, goals, g);
+    laid::lack::check_whole(&mut report, s, a, g, n);
+    if report.is_faulty() {
+        return Err(Faults {
+            told: report.finish(),
+        });
     }
     if !whole::is_whole(text, states, s, actions, a, facts, f) {
-        return Turned::Faults(blame(told));
+        return Err(blame(told));
     }
     turn_whole(
         out, told, text, states, s, actions, a, facts, f, goals, g, labels, moves, n,
@@ -263,7 +204,7 @@ fn turn_named(
     f: usize,
     goals: &[usize],
     g: usize,
-) -> Turned
+) -> Result<usize, Faults>
     requires { Tables text.now states.now s actions.now a facts.now f goals.now g }
     ensures { Answers (table text.now states.now s) (table text.now actions.now a)
         (table text.now facts.now f) (table text.now goals.now g) text.now out.new result }
@@ -280,7 +221,7 @@ fn turn_named(
 }
 
 // The same from the text alone.
-fn turn_text(out: &mut [u8], told: &mut [u8], text: &[u8]) -> Turned
+fn turn_text(out: &mut [u8], told: &mut [u8], text: &[u8]) -> Result<usize, Faults>
     ensures { Answers (state_names text.now) (action_names text.now) (fact_names text.now)
         (goal_names text.now) text.now out.new result }
 {
@@ -297,27 +238,24 @@ fn turn_text(out: &mut [u8], told: &mut [u8], text: &[u8]) -> Turned
     )
 }
 
-// How many bytes are told of faults; a fault of which nothing is told would lie in this program.
-fn tell(told: &mut [u8], n: usize) -> usize
-    ensures { Told (length told.old) (Turned.Faults result) }
+// What is told of faults; where nothing is told, or more than there is room for, the fault would lie in this program.
+fn tell(told: &mut [u8], faults: Faults) -> Faults
+    ensures { Told (length told.old) (Err result) }
 {
-    if n == 0 {
-        return blame(told);
+    if (1..=told.len()).contains(&faults.told) {
+        return faults;
     }
-    if told.len() < n {
-        return blame(told);
-    }
-    n
+    blame(told)
 }
 
-// Turns a text into a job in the output, or tells its faults.
-pub fn turn(out: &mut [u8], told: &mut [u8], text: &[u8]) -> Turned
+/// Turns a text into a job in the output, and answers how many bytes the job has, or tells the text's faults.
+pub fn turn(out: &mut [u8], told: &mut [u8], text: &[u8]) -> Result<usize, Faults>
     ensures answers { Answers (state_names text.now) (action_names text.now) (fact_names text.now)
         (goal_names text.now) text.now out.new result }
     ensures told { Told (length told.old) result }
 {
     match turn_text(out, told, text) {
-        Turned::Job(n) => Turned::Job(n),
-        Turned::Faults(n) => Turned::Faults(tell(told, n)),
+        Ok(n) => Ok(n),
+        Err(faults) => Err(tell(told, faults)),
     }
 }

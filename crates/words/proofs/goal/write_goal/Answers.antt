@@ -1,5 +1,5 @@
 -- `goal::write_goal` meets its contract.
-use mathlib.Core.Path.{sym}
+use mathlib.Core.Path.{refl, sym, ◌∙◌}
 use native.Mathlib.Omega.{arith}
 use lib.Seq.{length-take-le}
 use Rattle.words.specs.Within.{aimless}
@@ -10,8 +10,7 @@ pub returns-then-k-eq0 : goal.returns-then-k-eq0
 returns-then-k-eq0 c =
     let x = c.args in
     table_aims x.text.now x.facts.now x.goals.now x.f x.g c.clauses-k.ensures c.if-k-eq0.true (omega arith)
-    c.write_table-size.ensures
-    c.given-first.ensures
+    c.write_table-size.ensures refl (c.unwrap_or-first.ensures ∙ c.given.ensures.index)
 
 pub returns-then-k-ge12 : goal.returns-then-k-ge12
 returns-then-k-ge12 c = aimless

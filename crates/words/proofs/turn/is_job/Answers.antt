@@ -8,9 +8,9 @@ use Rattle.words.proofs.turn.is_job.Goals as goal
 pub is_meant-requires : goal.is_meant-requires
 is_meant-requires c =
     record {
-      fit = read_fit _ _ (ap reading_figures (sym c.in-Job.is) ∙ c.read.ensures);
+      fit = read_fit _ _ (ap reading_figures (sym c.in-Ok.is) ∙ c.read.ensures);
       labels_len = c.requires;
     }
 
-pub returns-in-Refused : goal.returns-in-Refused
-returns-in-Refused c = λ e. absurd (false≢true e)
+pub returns-in-Err : goal.returns-in-Err
+returns-in-Err c = λ e. absurd (false≢true e)
