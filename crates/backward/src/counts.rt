@@ -28,11 +28,9 @@ fn add_record(counters: &mut [u16], job: &[u8], l: Layout, k: usize)
 {
     let m = job::ask::move_at(job, l, k);
     let goals = l.goals;
-    let mut q: usize = 0;
-    while q < goals {
+    for q in 0..goals {
         let i = word_of(l, m.state as usize, q, m.action as usize);
         counters[i] += 1;
-        q += 1;
     }
 }
 
@@ -45,9 +43,7 @@ pub fn count_all(counters: &mut [u16], job: &[u8], l: Layout)
 {
     crate::words::fill(counters, l.states * l.goals * (l.actions as usize), 0);
     let n = l.records;
-    let mut k: usize = 0;
-    while k < n {
+    for k in 0..n {
         add_record(counters, job, l, k);
-        k += 1;
     }
 }

@@ -3,12 +3,12 @@ ghost use Rattle.backward.specs.Layers.{LayersReady, LayersDone, Ready, Planned}
 
 use job::layout::Layout;
 use phases::phase::Phase;
-use sets::places::{PlaceSet, ROOM, WORDS};
+use sets::places::{PlaceSet, ROOM};
 
 // Layers of the phase, from the places of the set on, which are the queue up to `some`. A layer that adds nothing is the last; no limit is
 // needed. Answers where the queue then ends.
 pub fn all_layers(
-    new: &mut [u64; WORDS],
+    new: &mut PlaceSet,
     plan: &mut [u8],
     counters: &mut [u16],
     queue: &mut [u16; ROOM],
@@ -18,12 +18,11 @@ pub fn all_layers(
     some: usize,
     phase: Phase,
 ) -> usize
-    requires { LayersReady job.now l index.now phase some new.old plan.old counters.old queue.old }
-    ensures { LayersDone job.now phase new.old plan.old counters.old
-        new.new plan.new counters.new queue.new result }
+    requires { LayersReady job.now l index.now phase some new.old.words plan.old counters.old queue.old }
+    ensures { LayersDone job.now phase new.old.words plan.old counters.old
+        new.new.words plan.new counters.new queue.new result }
 {
-    let none = PlaceSet::empty();
-    let mut known = none.words;
+    let mut known = PlaceSet::empty();
     let mut from: usize = 0;
     let mut to = some;
     let mut k: usize = 0;
@@ -61,8 +60,7 @@ pub fn label_all(plan: &mut [u8], index: &mut [u16], counters: &mut [u16], job: 
 {
     crate::index::build(index, job, l);
     crate::counts::count_all(counters, job, l);
-    let first = phases::begin::begin(plan, job, l);
-    let mut set = first.words;
+    let mut set = phases::begin::begin(plan, job, l);
     let mut queue = [0u16; ROOM];
     let some = crate::queue::gather(&mut queue, &set, l.states * l.goals);
     let won = all_layers(
@@ -77,7 +75,7 @@ pub fn label_all(plan: &mut [u8], index: &mut [u16], counters: &mut [u16], job: 
         Phase::Winning,
     );
     crate::words::fill(counters, l.states * l.goals * (l.actions as usize), 0);
-    let all = all_layers(
+    all_layers(
         &mut set,
         plan,
         counters,

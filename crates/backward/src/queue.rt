@@ -3,22 +3,19 @@ ghost use Rattle.std.specs.Prelude.{◌≡◌, false, ℕ, ◌≤◌, ◌<◌, l
 ghost use Rattle.sets.specs.Sets.{set_words, set_room, member};
 ghost use Rattle.backward.specs.Queue.{queued, Queue};
 
-use sets::places::{ROOM, WORDS};
+use sets::places::{PlaceSet, ROOM};
 
 // The places of the set, all below n, become the queue; tells how many they are.
-pub fn gather(queue: &mut [u16; ROOM], set: &[u64; WORDS], n: usize) -> usize
+pub fn gather(queue: &mut [u16; ROOM], set: &PlaceSet, n: usize) -> usize
     requires queue_len { length queue.old ≡ set_room }
     requires n_le_set_room { n ≤ set_room }
-    requires by_index { (x : ℕ) → n ≤ x → member set.now x ≡ false }
-    ensures { Queue (member set.now) queue.new result }
+    requires by_index { (x : ℕ) → n ≤ x → member set.now.words x ≡ false }
+    ensures { Queue (member set.now.words) queue.new result }
 {
     let mut tail: usize = 0;
-    let mut x: usize = 0;
-    while x < n {
-        let at = x;
-        x += 1;
-        if sets::places::has_place(set, at) {
-            queue[tail] = at as u16;
+    for x in 0..n {
+        if set.has(x) {
+            queue[tail] = x as u16;
             tail += 1;
         }
     }
@@ -26,18 +23,16 @@ pub fn gather(queue: &mut [u16; ROOM], set: &[u64; WORDS], n: usize) -> usize
 }
 
 // The known places were those of the queue before `from`, and become those before `to`.
-pub fn learn(known: &mut [u64; WORDS], queue: &[u16; ROOM], from: usize, to: usize)
-    requires known_len { length known.old ≡ set_words }
+pub fn learn(known: &mut PlaceSet, queue: &[u16; ROOM], from: usize, to: usize)
+    requires known_len { length known.old.words ≡ set_words }
     requires from_le_to { from ≤ to }
     requires to_le_set_room { to ≤ set_room }
     requires by_index { (i : ℕ) → i < to → get_or queue.now i 0 < set_room }
-    requires by_index_2 { (x : ℕ) → member known.old x ≡ queued queue.now from x }
-    ensures { (length known.new ≡ set_words)
-        × ((x : ℕ) → member known.new x ≡ queued queue.now to x) }
+    requires by_index_2 { (x : ℕ) → member known.old.words x ≡ queued queue.now from x }
+    ensures { (length known.new.words ≡ set_words)
+        × ((x : ℕ) → member known.new.words x ≡ queued queue.now to x) }
 {
-    let mut i = from;
-    while i < to {
-        sets::places::put_place(known, queue[i] as usize);
-        i += 1;
+    for i in from..to {
+        known.put(queue[i] as usize);
     }
 }

@@ -1,13 +1,15 @@
 // The step: one place is taken, the counters of the places and actions that may lead to it fall, and the places with a counter that is
 // then 0 join. Each record that leads to the place is looked at once for each goal state from which the place is entered.
 ghost use Rattle.std.specs.Prelude.{◌<◌, length};
+ghost use Rattle.rules.specs.Answers.{value_number};
 ghost use Rattle.rules.specs.Bytes.{said};
 ghost use Rattle.sets.specs.Sets.{member};
 ghost use Rattle.backward.specs.Step.{Fell, WalkReady, Walked, Taking, Taken};
 
 use job::layout::Layout;
 use phases::phase::Phase;
-use sets::places::{ROOM, WORDS};
+use rules::answer::Value;
+use sets::places::{PlaceSet, ROOM};
 
 // The counter at word i falls by one, unless it is 0 already; tells whether it is 0 then. Where pending places are looked for, all are 0.
 fn lower(counters: &mut [u16], i: usize) -> bool
@@ -25,26 +27,26 @@ fn lower(counters: &mut [u16], i: usize) -> bool
 
 // The records that lead to state t, at goal state q: the counter of each falls, and where it is then 0 the action is found for its place.
 fn walk_from(
-    new: &mut [u64; WORDS],
+    new: &mut PlaceSet,
     plan: &mut [u8],
     counters: &mut [u16],
     queue: &mut [u16; ROOM],
     job: &[u8],
     l: Layout,
     index: &[u16],
-    known: &[u64; WORDS],
+    known: &PlaceSet,
     t: usize,
     q: usize,
     tail: usize,
-    value: u8,
+    value: Value,
     number: u16,
 ) -> usize
-    requires walk_ready { WalkReady job.now l index.now tail new.old plan.old counters.old queue.old }
+    requires walk_ready { WalkReady job.now l index.now tail new.old.words plan.old counters.old queue.old }
     requires t_lt_states { t < l.states }
     requires q_lt_goals { q < l.goals }
-    ensures { Walked (said job.now) t q (said job.now).records value number (member known.now)
-        new.old plan.old counters.old queue.old tail
-        new.new plan.new counters.new queue.new result }
+    ensures { Walked (said job.now) t q (said job.now).records (value_number value) number (member known.now.words)
+        new.old.words plan.old counters.old queue.old tail
+        new.new.words plan.new counters.new queue.new result }
 {
     let n = l.records;
     let states = l.states;
@@ -73,37 +75,34 @@ fn walk_from(
 
 // Takes the place at `head` of the queue, which ends at `tail`; answers where it then ends.
 pub fn take(
-    new: &mut [u64; WORDS],
+    new: &mut PlaceSet,
     plan: &mut [u8],
     counters: &mut [u16],
     queue: &mut [u16; ROOM],
     job: &[u8],
     l: Layout,
     index: &[u16],
-    known: &[u64; WORDS],
+    known: &PlaceSet,
     head: usize,
     tail: usize,
     phase: Phase,
     number: u16,
 ) -> usize
-    requires { Taking job.now l index.now phase head tail new.old plan.old counters.old queue.old }
-    ensures { Taken (said job.now) phase number head (member known.now)
-        new.old plan.old counters.old queue.old tail
-        new.new plan.new counters.new queue.new result }
+    requires { Taking job.now l index.now phase head tail new.old.words plan.old counters.old queue.old }
+    ensures { Taken (said job.now) phase number head (member known.now.words)
+        new.old.words plan.old counters.old queue.old tail
+        new.new.words plan.new counters.new queue.new result }
 {
-    let value = phases::phase::value_of(phase);
+    let value = Value::from(phase);
     let goals = l.goals;
     let x = queue[head] as usize;
     let t = x / goals;
     let g = x % goals;
     let mut end = tail;
-    let mut q: usize = 0;
-    while q < goals {
-        let from = q;
-        q += 1;
-        if job::ask::next_goal(job, l, from, t) == g {
+    for q in 0..goals {
+        if job::ask::next_goal(job, l, q, t) == g {
             end = walk_from(
-                new, plan, counters, queue, job, l, index, known, t, from, end, value, number,
+                new, plan, counters, queue, job, l, index, known, t, q, end, value, number,
             );
         }
     }

@@ -1,5 +1,5 @@
 -- `add_record` meets its contract: the goal states passed have the record counted.
-use Prim.Native.Nat.{◌≤◌, ◌<◌, ◌-◌}
+use Prim.Native.Nat.{◌≤◌, ◌<◌}
 use mathlib.Core.Path.{◌≡◌}
 use native.Mathlib.Omega.{arith}
 use lib.ListN.{length, get_or}
@@ -13,7 +13,7 @@ use Rattle.backward.proofs.Spots.{spot_below}
 use Rattle.backward.proofs.counts.add_record.Goals as goal
 
 pub loop-q-init : goal.loop-q-init
-loop-q-init c = (omega arith, added_none)
+loop-q-init c = added_none
 
 pub word_of-i-requires : goal.word_of-i-requires
 word_of-i-requires c =
@@ -25,26 +25,6 @@ word_of-i-requires c =
       q_lt_goals = c.loop-q-test.true;
       a_lt_actions = rw m (action_below c.requires.fit k c.requires.k_lt_records);
     }
-
-pub offset_bounds-counters-i : goal.offset_bounds-counters-i
-offset_bounds-counters-i c =
-    let act : c.move_at-m.result.action < c.args.l.actions =
-    rw
-    c.move_at-m.ensures (action_below c.requires.fit c.args.k c.requires.k_lt_records) in
-    let inside : c.word_of-i.result < counters_size (said c.args.job.now) =
-    let f = c.requires.fit in
-    let s : c.move_at-m.result.state < c.args.l.states = rw
-    c.move_at-m.ensures (state_below f c.args.k c.requires.k_lt_records) in
-    rw (c.word_of-i.ensures, ← states_said f, ← goals_said f, ← actions_said f)
-    (spot_below c.args.l.goals c.args.l.actions s c.loop-q-test.true (act)) in
-    let there : c.word_of-i.result < length c.loop-q.counters =
-    omega (
-      arith,
-      inside,
-      c.requires.counts.long,
-      c.loop-q.invariant.1.as_long,
-    ) in
-    omega (arith, there)
 
 pub bounds-counters-i : goal.bounds-counters-i
 bounds-counters-i c =
@@ -62,7 +42,7 @@ bounds-counters-i c =
       arith,
       inside,
       c.requires.counts.long,
-      c.loop-q.invariant.1.as_long,
+      c.loop-q.invariant.as_long,
     ) in
     there
 
@@ -89,7 +69,7 @@ overflow_add-counters c =
     omega (
       arith,
       few_records f,
-      added_few c.loop-q.invariant.1 (act)
+      added_few c.loop-q.invariant (act)
           c.loop-q-test.true i c.word_of-i.ensures low,
     )
 
@@ -109,7 +89,7 @@ bounds-counters-i-in-loop-q c =
       arith,
       inside,
       c.requires.counts.long,
-      c.loop-q.invariant.1.as_long,
+      c.loop-q.invariant.as_long,
     ) in
     there
 
@@ -129,15 +109,9 @@ loop-q-preserved c =
       arith,
       inside,
       c.requires.counts.long,
-      c.loop-q.invariant.1.as_long,
-    ) in (
-      omega arith,
-      rw c.word_of-i.ensures (added_more c.loop-q.invariant.1 (act)
-          c.loop-q-test.true (rw c.word_of-i.ensures at (there))),
-    )
-
-pub shape_of-counters : goal.shape_of-counters
-shape_of-counters c = c.loop-q.invariant.1.as_long
+      c.loop-q.invariant.as_long,
+    ) in
+    rw c.word_of-i.ensures (added_more c.loop-q.invariant (act) c.loop-q-test.true (rw c.word_of-i.ensures at (there)))
 
 pub returns : goal.returns
 returns c = let f = c.requires.fit in
@@ -146,4 +120,4 @@ returns c = let f = c.requires.fit in
     let m = c.move_at-m.ensures in
     added_all f.keeps.some_goals f.keeps.some_actions (f.keeps.state_below k
     (rw (records_said f) at c.requires.k_lt_records)) c.requires.counts
-    (rw (e, m, goals_said f, actions_said f) at c.loop-q.invariant.1)
+    (rw (e, m, goals_said f, actions_said f) at c.loop-q.invariant)

@@ -1,12 +1,8 @@
 -- `count_all` meets its contract: the counters are the counts of the records passed.
-use Prim.Native.Nat.{◌≤◌, ◌-◌}
 use Rattle.rules.specs.Bytes.{said}
 use Rattle.sets.specs.Sets.{count}
 use Rattle.backward.specs.Counts.{from_at, Counted}
 use Rattle.backward.proofs.counts.count_all.Given as goal
 
 abbrev pub invariant-loop-k : goal.invariant-loop-k
-invariant-loop-k l = (l.k ≤ l.n) × Counted (said l.job) (λ y. count (from_at (said l.job) y) l.k) l.initial.counters l.counters
-
-abbrev pub decreases-loop-k : goal.decreases-loop-k
-decreases-loop-k l = l.n - l.k
+invariant-loop-k l = Counted (said l.job) (λ y. count (from_at (said l.job) y) l.k) l.initial.counters l.counters

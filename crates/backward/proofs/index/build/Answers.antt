@@ -11,15 +11,9 @@ pub overflow_cast-n : goal.overflow_cast-n
 overflow_cast-n c = omega (arith, few_records c.requires.fit)
 
 pub loop-k-init : goal.loop-k-init
-loop-k-init c = (
-  omega arith,
-  rw (records_said c.requires.fit)
-      (indexing_none (rw (
-        states_said c.requires.fit,
-        records_said
-            c.requires.fit,
-      ) at c.fill.ensures)),
-)
+loop-k-init c =
+    let f = c.requires.fit in
+    rw (records_said f) (indexing_none (rw (states_said f, records_said f) at c.fill.ensures))
 
 pub overflow_cast-k : goal.overflow_cast-k
 overflow_cast-k c = omega (arith, few_records c.requires.fit)
@@ -32,7 +26,7 @@ link-requires c =
       t_lt_states = rw c.move_at-m.ensures t;
       k_in_bounds = omega (
         arith,
-        a.invariant.1.as_long,
+        a.invariant.as_long,
         c.fill.ensures.as_long,
         c.requires.records_in_bounds,
       );
@@ -43,19 +37,12 @@ loop-k-preserved c =
     let f = c.requires.fit in
     let a = c.loop-k in
     let b = outcome_below f (a.k - 1) (omega arith) in
-    let e : a.k ≡ a.k - 1 + 1 = omega arith in (
-      omega arith,
-      indexing_more (rw e at a.invariant.1) (omega (arith, records_said f))
-          (ap (λ (m : Move). m.outcome) c.move_at-m.ensures)
-          (rw (c.move_at-m.ensures, ← states_said f) b)
-          (rw (states_said f) at c.link.ensures),
-    )
-
-pub shape_of-index : goal.shape_of-index
-shape_of-index c = omega (arith, c.loop-k.invariant.1.as_long, c.fill.ensures.as_long)
+    let e : a.k ≡ a.k - 1 + 1 = omega arith in
+    indexing_more (rw e at a.invariant) (omega (arith, records_said f)) (ap (λ (m : Move). m.outcome) c.move_at-m.ensures)
+    (rw (c.move_at-m.ensures, ← states_said f) b) (rw (states_said f) at c.link.ensures)
 
 pub returns : goal.returns
 returns c = let f = c.requires.fit in
     let z : c.loop-k.k ≡ 0 = omega arith in
     indexing_from (rw (states_said f, records_said f) at c.fill.ensures)
-    (rw z at c.loop-k.invariant.1)
+    (rw z at c.loop-k.invariant)

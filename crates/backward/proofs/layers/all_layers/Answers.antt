@@ -1,6 +1,4 @@
 -- `all_layers` meets its contract: each turn makes one layer, and the queue grows until one adds nothing.
-use Prim.Native.Nat.{◌-◌}
-use mathlib.Core.Path.{◌∙◌}
 use native.Mathlib.Omega.{arith}
 use borrow.Author.Rules.{rules}
 use Rattle.backward.proofs.Pacing.{paced_none, paced_ready, paced_more, paced_end}
@@ -9,7 +7,7 @@ use Rattle.backward.proofs.layers.all_layers.Goals as goal
 
 pub loop-to-init : goal.loop-to-init
 loop-to-init c =
-    paced_none c.requires (search rules) c.empty-none.ensures
+    paced_none c.requires (search rules) c.empty-known.ensures
 
 pub learn-requires : goal.learn-requires
 learn-requires c =
@@ -33,14 +31,6 @@ overflow_cast-k c =
 pub layer-tail-requires : goal.layer-tail-requires
 layer-tail-requires c =
     paced_ready c.requires c.loop-to.invariant c.learn.ensures.1
-
-pub shape_of-plan-then-tail-to : goal.shape_of-plan-then-tail-to
-shape_of-plan-then-tail-to c =
-    c.layer-tail.ensures.passed.as_long ∙ c.loop-to.invariant.as_long
-
-pub shape_of-counters-then-tail-to : goal.shape_of-counters-then-tail-to
-shape_of-counters-then-tail-to c =
-    c.layer-tail.ensures.counted.as_long ∙ c.loop-to.invariant.counted.as_long
 
 pub returns-then-tail-to : goal.returns-then-tail-to
 returns-then-tail-to c =

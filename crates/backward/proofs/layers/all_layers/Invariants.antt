@@ -7,7 +7,7 @@ use Rattle.backward.proofs.layers.all_layers.Given as goal
 
 abbrev pub invariant-loop-to : goal.invariant-loop-to
 invariant-loop-to l =
-    Paced (said l.job) l.phase l.initial.new l.initial.plan l.initial.counters l.k l.from l.to l.known l.new l.plan l.counters l.queue
+    Paced (said l.job) l.phase l.initial.new.words l.initial.plan l.initial.counters l.k l.from l.to l.known.words l.new.words l.plan l.counters l.queue
 
 abbrev pub decreases-loop-to : goal.decreases-loop-to
 decreases-loop-to l =

@@ -19,13 +19,13 @@ gather-some-requires c =
     record {
       queue_len = search rules;
       n_le_set_room = few_places f;
-      by_index = rw (sym (places_said f)) at (holds_none_past (holds_begin f c.begin-first.ensures));
+      by_index = rw (sym (places_said f)) at (holds_none_past (holds_begin f c.begin-set.ensures));
     }
 
 pub all_layers-won-requires : goal.all_layers-won-requires
 all_layers-won-requires c =
     let f = c.requires.fit in
-    let b = c.begin-first.ensures in
+    let b = c.begin-set.ensures in
     record {
       ready = record {
         fit = f;
@@ -51,10 +51,10 @@ pub fill-requires : goal.fill-requires
 fill-requires c =
     omega (arith, c.requires.counters_room, c.count_all.ensures.as_long, c.all_layers-won.ensures.counted.as_long)
 
-pub all_layers-all-requires : goal.all_layers-all-requires
-all_layers-all-requires c =
+pub all_layers-requires : goal.all_layers-requires
+all_layers-requires c =
     let f = c.requires.fit in
-    let b = c.begin-first.ensures in
+    let b = c.begin-set.ensures in
     let d = c.all_layers-won.ensures in
     let a = c.count_all.ensures in
     record {
@@ -73,25 +73,12 @@ all_layers-all-requires c =
           (rw (counters_said f) at c.fill.ensures);
     }
 
-pub shape_of-plan : goal.shape_of-plan
-shape_of-plan c =
-    c.all_layers-all.ensures.as_long ∙ c.all_layers-won.ensures.as_long ∙ c.begin-first.ensures.3.as_long
-
-pub shape_of-index : goal.shape_of-index
-shape_of-index c =
-    c.build.ensures.as_long
-
-pub shape_of-counters : goal.shape_of-counters
-shape_of-counters c =
-    c.all_layers-all.ensures.counted.as_long ∙ c.fill.ensures.as_long ∙ c.all_layers-won.ensures.counted.as_long
-    ∙ c.count_all.ensures.as_long
-
 pub returns : goal.returns
 returns c =
     let f = c.requires.fit in
-    let b = c.begin-first.ensures in
+    let b = c.begin-set.ensures in
     let d = c.all_layers-won.ensures in
-    let e = c.all_layers-all.ensures in
+    let e = c.all_layers.ensures in
     record {
       labelled = labelled_all f b d e;
       indexed = c.build.ensures;

@@ -1,5 +1,5 @@
 -- `learn` meets its contract: the places of the queue before i are known.
-use Prim.Native.Nat.{ℕ, ◌≤◌, ◌-◌}
+use Prim.Native.Nat.{ℕ}
 use mathlib.Core.Path.{◌≡◌}
 use lib.ListN.{length}
 use Rattle.sets.specs.Sets.{set_words, member}
@@ -8,8 +8,4 @@ use Rattle.backward.proofs.queue.learn.Given as goal
 
 abbrev pub invariant-loop-i : goal.invariant-loop-i
 invariant-loop-i l =
-    (l.i ≤ l.to) × (length l.known ≡ set_words) × ((x : ℕ) → member l.known x ≡ queued l.queue l.i x)
-
-abbrev pub decreases-loop-i : goal.decreases-loop-i
-decreases-loop-i l =
-    l.to - l.i
+    (length l.known.words ≡ set_words) × ((x : ℕ) → member l.known.words x ≡ queued l.queue l.i x)

@@ -1,5 +1,5 @@
 -- `take` meets its contract: each goal state from which the place is entered is passed.
-use Prim.Native.Nat.{◌*◌, ◌/◌, ◌≤◌, ◌<◌, ◌-◌}
+use Prim.Native.Nat.{◌*◌, ◌/◌, ◌≤◌, ◌<◌}
 use mathlib.Core.Path.{◌≡◌, ◌∙◌, sym}
 use native.Mathlib.Omega.{arith}
 use borrow.Author.Tests.{eq-eqb, ne_eqb}
@@ -11,6 +11,7 @@ use Rattle.job.proofs.Asking.{few_places, places_said, goals_said, some_goals}
 use Rattle.backward.proofs.Queuing.{queue_few}
 use Rattle.backward.proofs.Stepping.{stepping_none, stepping_skip, stepping_more, stepping_end}
 use Rattle.backward.proofs.step.take.Goals as goal
+use Rattle.backward.proofs.step.take.Goals.{then-next_goal-g, else-next_goal-g}
 
 pub offset_bounds-queue-head : goal.offset_bounds-queue-head
 offset_bounds-queue-head c =
@@ -20,23 +21,13 @@ pub bounds-queue-head : goal.bounds-queue-head
 bounds-queue-head c =
     omega (arith, c.requires.due, queue_few c.requires.ready.queue_of)
 
-pub overflow_cast-x : goal.overflow_cast-x
-overflow_cast-x c =
-    let few : get_or c.args.queue.now c.args.head 0 < c.args.l.states * c.args.l.goals × c.args.l.states * c.args.l.goals ≤ set_room =
-    let f = c.requires.ready.fit in (rw (sym (places_said f)) at c.requires.a_place, omega (arith, few_places f)) in
-    omega (arith, few)
-
 pub nonzero_div-t : goal.nonzero_div-t
 nonzero_div-t c =
     some_goals c.requires.ready.fit
 
-pub nonzero_rem-g : goal.nonzero_rem-g
-nonzero_rem-g c =
-    some_goals c.requires.ready.fit
-
 pub loop-q-init : goal.loop-q-init
 loop-q-init c =
-    (omega arith, stepping_none c.requires.ready.queue_of)
+    stepping_none c.requires.ready.queue_of
 
 pub next_goal-requires : goal.next_goal-requires
 next_goal-requires c =
@@ -57,7 +48,7 @@ walk_from-end-requires c =
     let row : get_or c.args.queue.now c.args.head 0 / c.args.l.goals < c.args.l.states =
     row_of (some_goals c.requires.ready.fit) (get_or c.args.queue.now c.args.head 0) (few).0 in
     let x = c.requires.ready in
-    let r = c.loop-q.invariant.1 in
+    let r = c.loop-q.invariant in
     record {
       walk_ready = record {
         fit = x.fit;
@@ -71,26 +62,20 @@ walk_from-end-requires c =
       q_lt_goals = c.loop-q-test.true;
     }
 
-pub loop-q-preserved-then-next_goal-g : goal.loop-q-preserved-then-next_goal-g
-loop-q-preserved-then-next_goal-g c =
-    let z = eq-eqb _ _ (sym c.next_goal.ensures ∙ c.if-next_goal-g.true) in
-    (omega arith, stepping_more c.loop-q.invariant.1 z c.walk_from-end.ensures)
-
-pub loop-q-preserved : goal.loop-q-preserved
-loop-q-preserved c =
-    let z = ne_eqb _ _ (λ e. c.if-next_goal-g.false (c.next_goal.ensures ∙ e)) in
-    (omega arith, stepping_skip c.loop-q.invariant.1 z)
-
-pub shape_of-plan : goal.shape_of-plan
-shape_of-plan c =
-    c.loop-q.invariant.1.noted.as_long
-
-pub shape_of-counters : goal.shape_of-counters
-shape_of-counters c =
-    c.loop-q.invariant.1.falls.as_long
-
 pub returns : goal.returns
 returns c =
     let f = c.requires.ready.fit in
-    let e : c.loop-q.q ≡ (said c.args.job.now).goals = omega (arith, goals_said f, c.loop-q.invariant.0) in
-    stepping_end c.requires (rw (e, goals_said f, c.value_of-value.ensures) at c.loop-q.invariant.1)
+    let e : c.loop-q.q ≡ (said c.args.job.now).goals = omega (arith, goals_said f) in
+    stepping_end c.requires (rw (e, goals_said f, c.from-value.ensures) at c.loop-q.invariant)
+
+pub loop-q-preserved : goal.loop-q-preserved
+loop-q-preserved c =
+    elim c.if-next_goal-g.branch [
+      | then-next_goal-g w ↦
+          let z = eq-eqb _ _ (sym c.next_goal.ensures ∙ w.if-next_goal-g.true) in
+          rw (w.new-is, w.plan-is, w.counters-is, w.queue-is, w.end-is)
+          (stepping_more c.loop-q.invariant z w.walk_from-end.ensures)
+      | else-next_goal-g w ↦
+          let z = ne_eqb _ _ (λ e. w.if-next_goal-g.false (c.next_goal.ensures ∙ e)) in
+          rw (w.new-is, w.plan-is, w.counters-is, w.queue-is, w.end-is) (stepping_skip c.loop-q.invariant z)
+    ]

@@ -1,5 +1,5 @@
 -- `walk_from` meets its contract: going along the index, the counter of each record falls, and where it is then 0 its action is found.
-use Prim.Native.Nat.{◌+◌, ◌*◌, ◌<◌, ◌-◌}
+use Prim.Native.Nat.{◌+◌, ◌*◌, ◌<◌}
 use mathlib.Core.Path.{◌≡◌, ◌∙◌}
 use native.Mathlib.Omega.{arith}
 use lib.Arith.{digits_lt}
@@ -23,21 +23,10 @@ pub bounds-index-t : goal.bounds-index-t
 bounds-index-t c =
     omega (arith, c.requires.walk_ready.lists.long, states_said c.requires.walk_ready.fit, c.requires.t_lt_states)
 
-pub overflow_cast-k : goal.overflow_cast-k
-overflow_cast-k c =
-    omega (arith, c.shared_slice_known-3-1.given c.args.t)
-
 pub loop-k-init : goal.loop-k-init
 loop-k-init c =
     let s = first_skips c.requires.walk_ready.lists c.args.t (rw (states_said c.requires.walk_ready.fit) at c.requires.t_lt_states) in
     (s.few, s.leads, walked_none s c.requires.walk_ready.queue_of)
-
-pub move_at-m-requires : goal.move_at-m-requires
-move_at-m-requires c =
-    record {
-      fit = c.requires.walk_ready.fit;
-      k_lt_records = c.loop-k-test.true;
-    }
 
 pub overflow_add-k : goal.overflow_add-k
 overflow_add-k c =
@@ -51,10 +40,6 @@ pub bounds-index-states : goal.bounds-index-states
 bounds-index-states c =
     let f = c.requires.walk_ready.fit in
     omega (arith, c.requires.walk_ready.lists.long, states_said f, records_said f, c.loop-k-test.true)
-
-pub overflow_cast-k-in-loop-k : goal.overflow_cast-k-in-loop-k
-overflow_cast-k-in-loop-k c =
-    omega (arith, c.shared_slice_known-in-loop-k-1.given (c.args.l.states + c.loop-k.k))
 
 pub word_of-i-requires : goal.word_of-i-requires
 word_of-i-requires c =
@@ -183,14 +168,6 @@ loop-k-preserved c =
       s.leads,
       walked_passed i.2 (goal) (action) (i.1 (there)) (rw (spot_is) at c.lower.ensures) s c.if-lower.false,
     )
-
-pub shape_of-plan : goal.shape_of-plan
-shape_of-plan c =
-    c.loop-k.invariant.2.noted.as_long
-
-pub shape_of-counters : goal.shape_of-counters
-shape_of-counters c =
-    c.loop-k.invariant.2.lowered.as_long
 
 pub returns : goal.returns
 returns c =
