@@ -5,7 +5,7 @@ ghost use Rattle.lines.specs.Names.{table};
 ghost use Rattle.slips.specs.Filling.{Filled};
 ghost use Rattle.rows.specs.Cells.{Named, table_byte, TableWritten};
 
-// How many labels so many facts have.
+// How many labels so many facts have. That of slips is the same, but stands in a module of its own crate alone.
 fn width(f: usize) -> usize
     requires { f ≤ 6 }
     ensures { result ≡ 2 ^ f }
