@@ -9,22 +9,21 @@ use borrow.Author.Tests.{ne_eqb, lt-ltb, le-ltb}
 use lib.Arith.{digits_lt}
 use lib.Dec.{ltb}
 use lib.ListN.{length}
+use Rattle.std.specs.Prelude.{Option, Some, None, Ok, Err}
 use Rattle.rules.specs.Job.{place, places}
 use Rattle.rules.specs.Bytes.{refusal, said}
 use Rattle.rules.specs.Plan.{entry, shaped}
 use Rattle.rules.specs.Fault.{only}
 use Rattle.rules.specs.Answers.{refusal_fault, advised_figures, ShapeOf}
 use Rattle.rules.specs.Calls.{refused_advice, advice_of}
-use Rattle.rules.specs.declared.answer.Advised.{Advised}
+use Rattle.rules.specs.declared.answer.Advice.{Advice}
 use Rattle.rules.specs.declared.answer.Refusal.{Refusal}
 use Rattle.rules.specs.declared.answer.Value.{Value}
 use Rattle.game.specs.declared.entry.Entry.{Entry}
-use Rattle.rules.specs.declared.entry.Shape.{Shape}
 use Rattle.rules.proofs.Kept.{kept}
 use Rattle.job.specs.Layout.{Fit}
 use Rattle.job.specs.Reading.{reading, reading_figures}
 use Rattle.job.specs.declared.layout.Layout.{Layout}
-use Rattle.job.specs.declared.layout.Reading.{Reading}
 use Rattle.job.proofs.Asking.{states_said, actions_said, goals_said, places_said}
 use Rattle.job.proofs.Readings.{read_refused, read_refused_some}
 use Rattle.larger.specs.Larger.{larger}
@@ -37,12 +36,10 @@ pub larger_below : (K k : ℕ) {s q states goals : ℕ} → k ≤ K → s < stat
     → k * (states * goals) + (s * goals + q) < (K + 1) * (states * goals)
 larger_below K k h hs hq = let l : k < K + 1 = omega arith in digits_lt l (digits_lt hs hq)
 
--- what reading answered, x, was matched
-pub slips_refused : (b : List ℕ) {x : Reading} {r : Refusal} → x ≡ Reading.Refused r → reading_figures x ≡ reading b
+-- reading refused
+pub slips_refused : (b : List ℕ) (r : Refusal) → reading_figures (Err r) ≡ reading b
     → (K : ℕ) (p : List ℕ) (s q k : ℕ) → refused_advice (refusal_fault r) ≡ advised_slips b K p s q k
-slips_refused b {r = r} i e K p s q k =
-    let answer = ap reading_figures (sym i) ∙ e in
-    rw (ne_eqb (refusal b) 0 (read_refused_some b r answer), read_refused b r answer)
+slips_refused b r e K p s q k = rw (ne_eqb (refusal b) 0 (read_refused_some b r e), read_refused b r e)
 
 module _ {b : List ℕ} {l : Layout} (f : Fit b l) (K : ℕ) (p : List ℕ) (s q k : ℕ) where
   sound : refusal b ≡ 0
@@ -106,11 +103,11 @@ module _ {b : List ℕ} {l : Layout} (f : Fit b l) (K : ℕ) (p : List ℕ) (s q
             shape_said = rw (actions_said f, places_said f, is_there, add-one K)
 
             -- its shape, x, was matched
-            pub slips_shapeless : {x : Shape} → x ≡ Shape.Nothing → ShapeOf l.actions ((K + 1) * (l.states * l.goals)) e x
+            pub slips_shapeless : {x : Option Value} → x ≡ None → ShapeOf l.actions ((K + 1) * (l.states * l.goals)) e x
                 → refused_advice (only 10) ≡ advised_slips b K p s q k
             slips_shapeless m g = let n = rw m at g in rw (sound, le-ltb 3 K few, long, is_one, shape_said, n)
 
-            pub slips_says : {x : Shape} {v : Value} → x ≡ Shape.Of v → ShapeOf l.actions ((K + 1) * (l.states * l.goals)) e x
-                → advised_figures (Advised.Says v e.action e.number) ≡ advised_slips b K p s q k
+            pub slips_says : {x : Option Value} {v : Value} → x ≡ Some v → ShapeOf l.actions ((K + 1) * (l.states * l.goals)) e x
+                → advised_figures (Ok (record { value = v; action = e.action; number = e.number })) ≡ advised_slips b K p s q k
             slips_says m g =
                 let (y, n) = rw m at g in rw (sound, le-ltb 3 K few, long, is_one, shape_said, y, ← n) (ap advice_of is_there)

@@ -1,5 +1,4 @@
 -- The laws of planning with slips of the arm.
-pub mod Adding
 pub mod Others
 pub mod Rounding
 pub mod Holding

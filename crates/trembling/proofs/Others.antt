@@ -14,7 +14,7 @@ use Rattle.game.specs.Game.{Lawful}
 use Rattle.game.specs.Below.{some_below}
 use Rattle.rules.specs.Job.{Job, arena}
 use Rattle.rules.specs.declared.place.Place.{Place}
-use Rattle.sets.specs.declared.actions.LowestAction.{LowestAction}
+use Rattle.std.specs.Prelude.{Option, Some, None}
 use Rattle.sets.proofs.Bits.{bit_none, bit_ones, below_or, same_or}
 use Rattle.game.proofs.Lists.{some, some_found, sure_some}
 use Rattle.game.proofs.Search.{clash, if_not_true}
@@ -41,9 +41,9 @@ module _ (n : ℕ) where
   other_iff a = and_iff (ltb_iff a 16) (some_iff (λ d. not (eqb d a) && bit n d) (λ d. and_iff Iff.rfl Iff.rfl) 16)
 
   -- the set has no action
-  pub others_none : ((k : ℕ) → bit n k ≡ false) → (a : ℕ) → bit 0 a ≡ other n a
-  others_none h a =
-      bit_none a ∙ sym (if_not_true (other n a) (λ y. let (l, o) = (other_iff a).0 y in let (d, m, s) = o in clash s.1 (h d)))
+  pub others_none : (r : ℕ) → ((k : ℕ) → bit r k ≡ false) → ((k : ℕ) → bit n k ≡ false) → (a : ℕ) → bit r a ≡ other n a
+  others_none r z h a =
+      z a ∙ sym (if_not_true (other n a) (λ y. let (l, o) = (other_iff a).0 y in let (d, m, s) = o in clash s.1 (h d)))
 
   module _ (d : ℕ) (few : d < 16) (has : bit n d ≡ true) where
     -- d is its only action
@@ -79,10 +79,10 @@ module _ (n : ℕ) where
             )
 
 -- as it is found out: d is the lowest action, `one` has d alone, and `rest` is the set without it
-module _ (n : ℕ) {x : LowestAction} {d : ℕ} (i : x ≡ LowestAction.Is d) (h : LowestOf n x) (none one rest : ℕ)
+module _ (n : ℕ) {x : Option ℕ} {d : ℕ} (i : x ≡ Some d) (h : LowestOf n x) (none one rest : ℕ)
     (z : (k : ℕ) → bit none k ≡ false) (w : (k : ℕ) → bit one k ≡ (ltb d 16 && eqb k d || bit none k))
     (o : (k : ℕ) → bit rest k ≡ (bit n k && not (bit one k))) where
-  abbrev lowest_is : LowestOf n (LowestAction.Is d)
+  abbrev lowest_is : LowestOf n (Some d)
   lowest_is = rw i at h
 
   one_is : (k : ℕ) → bit one k ≡ eqb k d
@@ -91,20 +91,20 @@ module _ (n : ℕ) {x : LowestAction} {d : ℕ} (i : x ≡ LowestAction.Is d) (h
   rest_is : (k : ℕ) → bit rest k ≡ (bit n k && not (eqb k d))
   rest_is k = o k ∙ rw (one_is k)
 
-  pub others_alone : {y : LowestAction} → y ≡ LowestAction.Nothing → LowestOf rest y → (r : ℕ)
+  pub others_alone : {y : Option ℕ} → y ≡ None → LowestOf rest y → (r : ℕ)
       → ((k : ℕ) → bit r k ≡ (bit 65535 k && not (bit one k))) → (a : ℕ) → bit r a ≡ other n a
   others_alone e l r w a =
       let none_left = rw e at l in
       w a ∙ rw (bit_ones 16 a, one_is a)
       (others_one n d lowest_is.within lowest_is.is_set (λ k. sym (rest_is k) ∙ none_left k) a)
 
-  pub others_more : {y : LowestAction} {e : ℕ} → y ≡ LowestAction.Is e → LowestOf rest y → (a : ℕ) → bit 65535 a ≡ other n a
+  pub others_more : {y : Option ℕ} {e : ℕ} → y ≡ Some e → LowestOf rest y → (a : ℕ) → bit 65535 a ≡ other n a
   others_more {e = e} i l a =
       let next = rw i at l in
       bit_ones 16 a ∙ others_two n d lowest_is.within lowest_is.is_set e next.within (sym (rest_is e) ∙ next.is_set) a
 
-pub others_nothing : (n : ℕ) {x : LowestAction} → x ≡ LowestAction.Nothing → LowestOf n x → (a : ℕ) → bit 0 a ≡ other n a
-others_nothing n e h = others_none n (rw e at h)
+pub others_nothing : (n : ℕ) {x : Option ℕ} → x ≡ None → LowestOf n x → (r : ℕ) → ((k : ℕ) → bit r k ≡ false) → (a : ℕ) → bit r a ≡ other n a
+others_nothing n e h r z = others_none n r z (rw e at h)
 
 -- ---- the actions that a round looks for at a larger place, by its tallies
 
@@ -178,14 +178,14 @@ module _ (j : Job) (L : Lawful (arena j)) (few : j.actions ≤ 16) (p : Place) w
           (below_or a 16)
 
     -- what is chosen is the lowest action that the round looks for
-    pub chosen_last : (v : Phase) (k : ℕ) → k ≡ 0 → {less : ℕ} → ScannedBoth j goals ws (k * many) less p x → (r : LowestAction)
+    pub chosen_last : (v : Phase) (k : ℕ) → k ≡ 0 → {less : ℕ} → ScannedBoth j goals ws (k * many) less p x → (r : Option ℕ)
         → LowestPassing (tallied_for v x.own) r
         → LowestCounted (wanted v (larger_arena j 3) (in_larger goals many ws) (larger k p)) j.actions r
     chosen_last v zero e h r c =
         choice_counted (slipping_lawful (arena j) L 3) (in_larger goals many ws) (larger 0 p) v r (lowest_same (last_wanted v h.here) r c)
     chosen_last v (suc k) e h r c = absurd (omega arith)
 
-    pub chosen_slip : (v : Phase) (k : ℕ) → (k ≡ 0 → ⊥) → ScannedBoth j goals ws (k * many) ((k - 1) * many) p x → (r : LowestAction)
+    pub chosen_slip : (v : Phase) (k : ℕ) → (k ≡ 0 → ⊥) → ScannedBoth j goals ws (k * many) ((k - 1) * many) p x → (r : Option ℕ)
         → LowestPassing (slipped_for v x) r
         → LowestCounted (wanted v (larger_arena j 3) (in_larger goals many ws) (larger k p)) j.actions r
     chosen_slip v zero e h r c = absurd (e refl)

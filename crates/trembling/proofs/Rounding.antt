@@ -9,26 +9,25 @@ use borrow.Author.Tests.{lt-ltb}
 use lib.Arith.{digits_lt, digits_div, digits_mod}
 use lib.Dec.{ltb}
 use lib.ListN.{length}
-use Rattle.sets.specs.Sets.{member}
+use Rattle.sets.specs.Sets.{member, PutIn}
 use Rattle.game.specs.Game.{says}
 use Rattle.rules.specs.Job.{place}
 use Rattle.rules.specs.Bytes.{said}
 use Rattle.rules.specs.Plan.{Wrote}
 use Rattle.game.specs.declared.entry.Entry.{Entry}
-use Rattle.sets.specs.declared.actions.LowestAction.{LowestAction}
+use Rattle.std.specs.Prelude.{Option, Some, None}
 use Rattle.job.specs.Layout.{Fit}
 use Rattle.job.specs.declared.layout.Layout.{Layout}
 use Rattle.job.proofs.Asking.{few_places, some_states, some_goals}
 use Rattle.phases.specs.declared.phase.Phase.{Phase}
 use Rattle.phases.specs.Wanted.{phase_value}
 use Rattle.phases.specs.Pass.{Pass}
-use Rattle.phases.proofs.Passes.{pass_skip, pass_write}
+use Rattle.phases.proofs.Passes.{pass_skip, pass_put}
 use Rattle.labelling.proofs.Choosing.{LowestCounted}
 use Rattle.labelling.proofs.Rounding.{next_row}
 use Rattle.larger.specs.Larger.{larger}
-use Rattle.trembling.specs.Sets.{most_larger, Added}
-use Rattle.trembling.specs.Round.{Ready, wanted_larger, adds, Passed, met_at, Begun}
-use Rattle.trembling.proofs.Adding.{pass_added}
+use Rattle.trembling.specs.Sets.{larger_words, most_larger}
+use Rattle.trembling.specs.Round.{Ready, wanted_larger, adds, Passed}
 
 -- so many slips, and one more than them, take no more than four times the places
 pub few_slips : (k n : ℕ) → k ≤ 3 → n ≤ 16384 → k * n + n ≤ most_larger
@@ -49,33 +48,22 @@ pub inside_known : (base : ℕ) {i n e : ℕ} (ws : List ℕ) {r : Bool} → (i 
     → r ≡ (ltb (base + i) most_larger && member ws (base + i)) → r ≡ member ws (base + e)
 inside_known base {i} {n} {e} ws (h, q) g a = a ∙ rw (lt-ltb (base + i) most_larger (omega arith), q)
 
--- a pass leaves the set and the plan as long as they were
+-- a pass leaves the plan as long as it was
 pub ready_on : {b : List ℕ} {l : Layout} {k s start end : ℕ} {gains writes : ℕ → Bool} {entries : ℕ → Entry} {lo hi : ℕ}
     {ws plan ws' plan' : List ℕ}
-    → Ready b l k s start end ws plan → Pass gains writes entries lo hi ws plan ws' plan' → Ready b l k s start end ws' plan'
+    → Ready b l k s start end plan → Pass gains writes entries lo hi ws plan ws' plan' → Ready b l k s start end plan'
 ready_on r p =
     record {
       fit = r.fit;
       few = r.few;
       state = r.state;
       range = r.range;
-      words = p.as_many ∙ r.words;
       room = rw p.as_long r.room;
     }
 
--- ---- round 0: an accepted place, and one that is not
-
-module _ {b : List ℕ} {l : Layout} (f : Fit b l) {i v : ℕ} {ws plan plan1 : List ℕ} where
-  pub begun_met : {ws1 : List ℕ} → met_at b l i ≡ true → Added ws i ws1 → v ≡ 2 → Wrote i (says v 255 0) plan plan1
-      → Begun b l i (i + 1) ws plan ws1 plan1
-  begun_met m p e w = pass_added m refl p (rw m (rw e at w))
-
-  pub begun_unmet : met_at b l i ≡ false → v ≡ 0 → Wrote i (says v 255 0) plan plan1 → Begun b l i (i + 1) ws plan ws plan1
-  begun_unmet m e w = pass_write m refl (rw m (rw e at w))
-
 -- ---- a round at one larger place
 
-module _ {b : List ℕ} {l : Layout} {k s start end q : ℕ} {ws plan : List ℕ} (r : Ready b l k s start end ws plan) (g : q < l.goals) where
+module _ {b : List ℕ} {l : Layout} {k s start end q : ℕ} {plan : List ℕ} (r : Ready b l k s start end plan) (g : q < l.goals) where
   -- its number, which a set has room for, and the plan for its entry
   abbrev here : ℕ
   here = k * (l.states * l.goals) + (s * l.goals + q)
@@ -95,23 +83,23 @@ module _ {b : List ℕ} {l : Layout} {k s start end q : ℕ} {ws plan : List ℕ
 
   module _ (v : Phase) (n : ℕ) (old : List ℕ) where
     -- it is in the old set
-    pub passed_old : member old here ≡ true → Passed b l v n old here (here + 1) ws plan ws plan
+    pub passed_old : {ws : List ℕ} → member old here ≡ true → Passed b l v n old here (here + 1) ws plan ws plan
     passed_old m = pass_skip (rw m) (rw m)
 
-    module _ {d : LowestAction} (c : LowestCounted (wanted_larger b l v old (larger k (place s q))) (said b).actions d) where
+    module _ {d : Option ℕ} (c : LowestCounted (wanted_larger b l v old (larger k (place s q))) (said b).actions d) where
       -- it has no action that the round looks for; it is new and has one
-      pub passed_none : d ≡ LowestAction.Nothing → Passed b l v n old here (here + 1) ws plan ws plan
+      pub passed_none : {ws : List ℕ} → d ≡ None → Passed b l v n old here (here + 1) ws plan ws plan
       passed_none e =
           let t = rw e at c in
           let z : adds b l v n old here ≡ false =
           rw (digits_div k below, digits_mod k below, digits_div s g, digits_mod s g, t) (and-false (not (member old here))) in
           pass_skip z z
 
-      pub passed_new : {a y : ℕ} {ws1 plan1 : List ℕ} → member old here ≡ false → d ≡ LowestAction.Is a
-          → Added ws here ws1 → y ≡ phase_value v → Wrote here (says y a n) plan plan1
+      pub passed_new : {a y : ℕ} {ws ws1 plan1 : List ℕ} → member old here ≡ false → d ≡ Some a
+          → PutIn larger_words ws here ws1 → y ≡ phase_value v → Wrote here (says y a n) plan plan1
           → Passed b l v n old here (here + 1) ws plan ws1 plan1
       passed_new m e p y w =
           let t = rw e at c in
           let z : adds b l v n old here ≡ true =
           rw (m, digits_div k below, digits_mod k below, digits_div s g, digits_mod s g) t.0 in
-          pass_added z z p (rw (digits_div k below, digits_mod k below, digits_div s g, digits_mod s g, t.1, ← y) w)
+          pass_put z z here_few p (rw (digits_div k below, digits_mod k below, digits_div s g, digits_mod s g, t.1, ← y) w)

@@ -14,6 +14,7 @@ use Rattle.phases.specs.declared.phase.Phase.{Phase}
 use Rattle.phases.specs.Wanted.{wanted, phase_value}
 use Rattle.labelling.specs.Scan.{Range}
 use Rattle.phases.specs.Pass.{place_at, Pass}
+use Rattle.phases.specs.Round.{begun_entry}
 use Rattle.larger.specs.Larger.{Larger, larger}
 use Rattle.larger.specs.Plans.{larger_arena}
 use Rattle.trembling.specs.Sets.{larger_words}
@@ -26,12 +27,11 @@ abbrev pub in_larger : (goals many : ℕ) → List ℕ → Larger Place → Bool
 in_larger goals many ws y = member ws (y.slips * many + entry_number goals y.at)
 
 -- what a round's functions rely on, with k slips left at state s, whose records are those from start up to end: there is room
-pub record Ready (b : List ℕ) (l : Layout) (k s start end : ℕ) (ws plan : List ℕ) : Type 0 where
+pub record Ready (b : List ℕ) (l : Layout) (k s start end : ℕ) (plan : List ℕ) : Type 0 where
   pub fit : Fit b l
   pub few : k ≤ 3
   pub state : s < l.states
   pub range : Range (said b) s start end
-  pub words : length ws ≡ larger_words
   pub room : 4 * (k * (l.states * l.goals) + l.states * l.goals) ≤ length plan
 
 -- the actions that a round looks for at a larger place (what naming one leads to is the same whatever the most slips)
@@ -58,7 +58,7 @@ module _ (b : List ℕ) (l : Layout) where
   met_at x = (arena (said b)).accepted (place_at l.goals (x % (l.states * l.goals)))
 
   abbrev pub first_entry : ℕ → Entry
-  first_entry x = cond (met_at x) (says 2 255 0) (says 0 255 0)
+  first_entry x = begun_entry (met_at x)
 
   -- round 0, over the larger places from lo up to hi
   abbrev pub Begun : (lo hi : ℕ) (ws plan ws' plan' : List ℕ) → Type 0

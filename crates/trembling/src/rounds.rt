@@ -26,14 +26,14 @@ pub fn all_rounds(
     let n = (slips + 1) * (l.states * l.goals);
     let used = (n + 63) / 64;
     let mut got = set;
-    let mut few = crate::set::size_of(&set.words, used);
+    let mut few = set.len_in(used);
     if few == 0 {
         return set;
     }
     let mut k: usize = 0;
     while few < n {
         let next = crate::round::one_round(plan, job, l, got, slips, phase, (k + 1) as u16);
-        let more = crate::set::size_of(&next.words, used);
+        let more = next.len_in(used);
         if more == few {
             return next;
         }

@@ -2,34 +2,23 @@
 ghost use Rattle.std.specs.Prelude.{◌≡◌, false, ◌&&◌, ◌||◌, ℕ, ◌+◌, ◌*◌, ◌<◌, ◌≤◌};
 ghost use Rattle.sets.specs.Sets.{bit};
 ghost use Rattle.rules.specs.Bytes.{said};
-ghost use Rattle.rules.specs.Job.{entered, entry_number, place};
+ghost use Rattle.rules.specs.Job.{place};
 ghost use Rattle.job.specs.Layout.{Fit};
 ghost use Rattle.labelling.specs.Scan.{Range, LowestPassing};
 ghost use Rattle.trembling.specs.Sets.{most_larger};
 ghost use Rattle.trembling.specs.Scan.{ScannedBoth, other, slipped_for};
 
-use crate::set::WORDS;
+use crate::set::LargerSet;
 use job::layout::Layout;
 use labelling::scan::Tally;
 use phases::phase::Phase;
-use sets::actions::{ActionSet, LowestAction};
+use sets::actions::ActionSet;
 
 // Two tallies of a place: with the slips that are left, and with one fewer.
-#[derive(Clone, Copy)]
+#[derive(Clone, Copy, Debug, PartialEq, Eq)]
 pub struct Tallies {
     pub own: Tally,
     pub less: Tally,
-}
-
-// The entry's number, among today's places, of the place that is entered with state t from goal state q.
-fn number_entered(job: &[u8], l: Layout, q: usize, t: usize) -> usize
-    requires fit { Fit job.now l }
-    requires q_lt_goals { q < l.goals }
-    requires t_lt_states { t < l.states }
-    ensures { (result < l.states * l.goals) × (result ≡ entry_number l.goals (entered (said job.now) q t)) }
-{
-    let g = job::ask::next_goal(job, l, q, t);
-    t * l.goals + g
 }
 
 // The tally of no record.
@@ -37,13 +26,11 @@ fn no_tally() -> Tally
     ensures { ((a : ℕ) → bit result.opens.bits a ≡ false) × ((a : ℕ) → bit result.held.bits a ≡ false)
         × ((a : ℕ) → bit result.spoilt.bits a ≡ false) }
 {
-    let opens = ActionSet::none();
-    let held = ActionSet::none();
-    let spoilt = ActionSet::none();
+    let none = ActionSet::none();
     Tally {
-        opens,
-        held,
-        spoilt,
+        opens: none,
+        held: none,
+        spoilt: none,
     }
 }
 
@@ -52,7 +39,7 @@ fn no_tally() -> Tally
 pub fn scan(
     job: &[u8],
     l: Layout,
-    words: &[u64; WORDS],
+    places: &LargerSet,
     s: usize,
     q: usize,
     start: usize,
@@ -65,26 +52,22 @@ pub fn scan(
     requires range { Range (said job.now) s start end }
     requires goals_bound { own + l.states * l.goals ≤ most_larger }
     requires goals_bound_2 { less + l.states * l.goals ≤ most_larger }
-    ensures { ScannedBoth (said job.now) l.goals words.now own less (place s q) result }
+    ensures { ScannedBoth (said job.now) l.goals places.now.words own less (place s q) result }
 {
     let none = no_tally();
     let mut x = Tallies {
         own: none,
         less: none,
     };
-    let mut k = start;
-    while k < end {
+    for k in start..end {
         let m = job::ask::move_at(job, l, k);
-        let i = number_entered(job, l, q, m.outcome as usize);
-        let here = crate::set::has_larger(words, own + i);
-        let below = crate::set::has_larger(words, less + i);
-        let x_own = labelling::scan::add_record(x.own, m.action, here);
-        let x_less = labelling::scan::add_record(x.less, m.action, below);
+        let i = labelling::scan::number_entered(job, l, q, usize::from(m.outcome));
+        let here = places.has(own + i);
+        let below = places.has(less + i);
         x = Tallies {
-            own: x_own,
-            less: x_less,
+            own: labelling::scan::add_record(x.own, m.action, here),
+            less: labelling::scan::add_record(x.less, m.action, below),
         };
-        k += 1;
     }
     x
 }
@@ -111,28 +94,26 @@ fn others(x: ActionSet) -> ActionSet
     ensures { (a : ℕ) → bit result.bits a ≡ other x.bits a }
 {
     match x.lowest() {
-        LowestAction::Nothing => ActionSet { bits: 0 },
-        LowestAction::Is(d) => {
+        None => ActionSet::none(),
+        Some(d) => {
             let one = ActionSet::none().with(d);
             let all = ActionSet { bits: 65535 };
             match x.without(one).lowest() {
-                LowestAction::Nothing => all.without(one),
-                LowestAction::Is(_) => all,
+                None => all.without(one),
+                Some(_) => all,
             }
         }
     }
 }
 
 // The lowest action that the phase looks for, with slips left.
-pub fn choose_slip(x: Tallies, phase: Phase) -> LowestAction
+pub fn choose_slip(x: Tallies, phase: Phase) -> Option<u8>
     ensures { LowestPassing (slipped_for phase x) result }
 {
     match phase {
         Phase::Winning => {
-            let opens = x.own.opens;
-            let spoilt = x.own.spoilt;
             let slips = others(x.less.spoilt);
-            opens.without(spoilt).without(slips).lowest()
+            x.own.opens.without(x.own.spoilt).without(slips).lowest()
         }
         Phase::Pending => {
             let slips = others(x.less.held);

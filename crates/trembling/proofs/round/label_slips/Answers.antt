@@ -9,13 +9,13 @@ use Rattle.trembling.specs.Round.{Passed}
 use Rattle.trembling.proofs.round.label_slips.Goals as goal
 
 pub loop-s-init : goal.loop-s-init
-loop-s-init c = (omega arith, from_start _, pass_empty (omega arith))
+loop-s-init c = (from_start _, pass_empty (omega arith))
 
 pub range_end-end-requires : goal.range_end-end-requires
 range_end-end-requires c =
     record {
       fit = c.requires.fit;
-      from = c.loop-s.invariant.1;
+      from = c.loop-s.invariant.0;
     }
 
 pub label_state-requires : goal.label_state-requires
@@ -27,9 +27,8 @@ label_state-requires c =
       fit = p.fit;
       few = p.k_bound;
       state = c.loop-s-test.true;
-      range = record { begins = v.1; ends = c.range_end-end.ensures.1; in_order = c.range_end-end.ensures.0 };
-      words = v.2.as_many ∙ p.len;
-      room = rw v.2.as_long p.goals_in_bounds;
+      range = record { begins = v.0; ends = c.range_end-end.ensures.1; in_order = c.range_end-end.ensures.0 };
+      room = rw v.1.as_long p.goals_in_bounds;
     }
 
 pub loop-s-preserved : goal.loop-s-preserved
@@ -37,18 +36,17 @@ loop-s-preserved c =
     -- c: the state's places are passed; c: the loop's head
     let l = c.args.l in
     let v = c.loop-s.invariant in (
-      omega arith,
       c.range_end-end.ensures.1,
-      rw (next_row c.loop-s.s l.goals) (pass_join (omega arith) (omega arith) v.2 c.label_state.ensures),
+      rw (next_row c.loop-s.s l.goals) (pass_join (omega arith) (omega arith) v.1 c.label_state.ensures),
     )
 
 pub shape_of-plan : goal.shape_of-plan
-shape_of-plan c = c.loop-s.invariant.2.as_long
+shape_of-plan c = c.loop-s.invariant.1.as_long
 
 pub returns : goal.returns
 returns c =
     let x = c.args in
     let e : c.loop-s.s ≡ x.l.states = omega arith in
-    subst (λ n. Passed x.job.now x.l x.phase x.number x.old.now (x.k * (x.l.states * x.l.goals))
-    (x.k * (x.l.states * x.l.goals) + n * x.l.goals) x.new.now x.plan.now c.loop-s.new c.loop-s.plan) e
-    c.loop-s.invariant.2
+    subst (λ n. Passed x.job.now x.l x.phase x.number x.old.now.words (x.k * (x.l.states * x.l.goals))
+    (x.k * (x.l.states * x.l.goals) + n * x.l.goals) x.new.now.words x.plan.now c.loop-s.new.words c.loop-s.plan) e
+    c.loop-s.invariant.1

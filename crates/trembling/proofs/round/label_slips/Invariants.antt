@@ -7,9 +7,5 @@ use Rattle.trembling.proofs.round.label_slips.Given as goal
 
 abbrev pub invariant-loop-s : goal.invariant-loop-s
 invariant-loop-s l =
-    (l.s ≤ l.states)
-    × From (said l.job) l.s l.start
-    × Passed l.job l.l l.phase l.number l.old (l.k * (l.l.states * l.l.goals)) (l.k * (l.l.states * l.l.goals) + l.s * l.l.goals) l.initial.new l.initial.plan l.new l.plan
-
-abbrev pub decreases-loop-s : goal.decreases-loop-s
-decreases-loop-s l = l.states - l.s
+    From (said l.job) l.s l.start
+    × Passed l.job l.l l.phase l.number l.old.words (l.k * (l.l.states * l.l.goals)) (l.k * (l.l.states * l.l.goals) + l.s * l.l.goals) l.initial.new.words l.initial.plan l.new.words l.plan

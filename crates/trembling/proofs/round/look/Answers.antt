@@ -30,7 +30,7 @@ pub returns-then-k-eq0 : goal.returns-then-k-eq0
 returns-then-k-eq0 c =
     let a = c.args in
     chosen_last (said a.job.now) (lawful c.requires.fit) c.requires.fit.keeps.few_actions (place a.s a.q) a.l.goals
-    (a.l.states * a.l.goals) a.old.now c.scan-x.result a.phase a.k c.if-k-eq0.true c.scan-x.ensures
+    (a.l.states * a.l.goals) a.old.now.words c.scan-x.result a.phase a.k c.if-k-eq0.true c.scan-x.ensures
     c.choose.result c.choose.ensures
 
 pub overflow_mul-less : goal.overflow_mul-less
@@ -54,5 +54,5 @@ pub returns : goal.returns
 returns c =
     let a = c.args in
     chosen_slip (said a.job.now) (lawful c.requires.fit) c.requires.fit.keeps.few_actions (place a.s a.q) a.l.goals
-    (a.l.states * a.l.goals) a.old.now c.scan-x-2.result a.phase a.k c.if-k-eq0.false c.scan-x-2.ensures
+    (a.l.states * a.l.goals) a.old.now.words c.scan-x-2.result a.phase a.k c.if-k-eq0.false c.scan-x-2.ensures
     c.choose_slip.result c.choose_slip.ensures

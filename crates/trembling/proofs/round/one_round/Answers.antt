@@ -9,7 +9,7 @@ use Rattle.trembling.proofs.Rounding.{room_below}
 use Rattle.trembling.proofs.round.one_round.Goals as goal
 
 pub loop-k-init : goal.loop-k-init
-loop-k-init c = (omega arith, search rules, pass_empty (omega arith))
+loop-k-init c = pass_empty (omega arith)
 
 pub label_slips-requires : goal.label_slips-requires
 label_slips-requires c =
@@ -17,32 +17,20 @@ label_slips-requires c =
     record {
       fit = c.requires.fit;
       k_bound = omega (arith, c.loop-k-test.true, c.requires.slips_bound);
-      len = v.2.as_many ∙ v.1;
-      goals_in_bounds = rw v.2.as_long
-          (room_below c.loop-k.k c.args.slips (c.args.l.states * c.args.l.goals) c.loop-k-test.true c.requires.goals_in_bounds);
+      goals_in_bounds = rw v.as_long
+          (room_below c.loop-k.k c.args.slips (c.args.l.states * c.args.l.goals) (omega (arith, c.loop-k-test.true)) c.requires.goals_in_bounds);
     }
-
-pub overflow_add-k : goal.overflow_add-k
-overflow_add-k c =
-    omega (arith, c.loop-k-test.true, c.requires.slips_bound)
-
-pub loop-k-smaller : goal.loop-k-smaller
-loop-k-smaller c =
-    omega (arith, c.loop-k-test.true)
 
 pub loop-k-preserved : goal.loop-k-preserved
 loop-k-preserved c =
     let v = c.loop-k.invariant in
-    let l = c.args.l in (
-      omega (arith, c.loop-k-test.true),
-      v.1,
-      rw (next_row c.loop-k.k (l.states * l.goals)) (pass_join (omega arith) (omega arith) v.2 c.label_slips.ensures),
-    )
+    let l = c.args.l in
+    rw (next_row c.loop-k.k (l.states * l.goals)) (pass_join (omega arith) (omega arith) v c.label_slips.ensures)
 
 pub shape_of-plan : goal.shape_of-plan
-shape_of-plan c = c.loop-k.invariant.2.as_long
+shape_of-plan c = c.loop-k.invariant.as_long
 
 pub returns : goal.returns
 returns c =
-    let e : c.loop-k.k ≡ c.args.slips + 1 = omega (arith, c.loop-k-test.false, c.loop-k.invariant.0) in
-    rw e at c.loop-k.invariant.2
+    let e : c.loop-k.k ≡ c.args.slips + 1 = omega arith in
+    rw e at c.loop-k.invariant

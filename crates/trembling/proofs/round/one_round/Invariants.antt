@@ -8,7 +8,4 @@ use Rattle.trembling.proofs.round.one_round.Given as goal
 
 abbrev pub invariant-loop-k : goal.invariant-loop-k
 invariant-loop-k l =
-    (l.k ≤ l.slips + 1) × (length l.initial.new ≡ larger_words) × Passed l.job l.l l.phase l.number l.set.words 0 (l.k * (l.l.states * l.l.goals)) l.initial.new l.initial.plan l.new l.plan
-
-abbrev pub decreases-loop-k : goal.decreases-loop-k
-decreases-loop-k l = l.slips + 1 - l.k
+    Passed l.job l.l l.phase l.number l.set.words 0 (l.k * (l.l.states * l.l.goals)) l.initial.new.words l.initial.plan l.new.words l.plan

@@ -25,22 +25,21 @@ overflow_add-used c =
     few_all c.args.slips (c.args.l.states * c.args.l.goals) c.requires.slips_bound (few_places c.requires.fit) in
     omega (arith, most)
 
-pub size_of-few-requires : goal.size_of-few-requires
-size_of-few-requires c =
-    let most : (c.args.slips + 1) * (c.args.l.states * c.args.l.goals) ≤ most_larger =
-    few_all c.args.slips (c.args.l.states * c.args.l.goals) c.requires.slips_bound (few_places c.requires.fit) in
-    omega (arith, most)
+pub len_in-few-requires : goal.len_in-few-requires
+len_in-few-requires c =
+    let most = few_all c.args.slips (c.args.l.states * c.args.l.goals) c.requires.slips_bound (few_places c.requires.fit) in
+    (omega arith, (omega (arith, most), omega (arith, most)))
 
 pub returns-then-few-eq0 : goal.returns-then-few-eq0
 returns-then-few-eq0 c =
     let hold : (c.args.slips + 1) * (c.args.l.states * c.args.l.goals) ≤ 64 * (((c.args.slips + 1) * (c.args.l.states * c.args.l.goals) + 63) / 64) =
     omega arith in
-    larger_empty c.requires.fit c.args.slips c.args.phase (64 * (((c.args.slips + 1) * (c.args.l.states * c.args.l.goals) + 63) / 64)) (hold) (sym c.size_of-few.ensures ∙ c.if-few-eq0.true)
+    larger_empty c.requires.fit c.args.slips c.args.phase (64 * (((c.args.slips + 1) * (c.args.l.states * c.args.l.goals) + 63) / 64)) (hold) (sym c.len_in-few.ensures ∙ c.if-few-eq0.true)
 
 pub loop-few-init : goal.loop-few-init
 loop-few-init c =
     let x = c.args in
-    (omega (arith, c.if-few-eq0.false), refl, c.size_of-few.ensures, larger_none (said x.job.now) x.slips x.phase _ _)
+    (omega (arith, c.if-few-eq0.false), refl, c.len_in-few.ensures, larger_none (said x.job.now) x.slips x.phase _ _)
 
 pub overflow_add-k : goal.overflow_add-k
 overflow_add-k c =
@@ -66,11 +65,10 @@ one_round-next-requires c =
       goals_in_bounds = omega (arith, c.requires.goals_in_bounds, c.loop-few.invariant.1);
     }
 
-pub size_of-more-requires : goal.size_of-more-requires
-size_of-more-requires c =
-    let most : (c.args.slips + 1) * (c.args.l.states * c.args.l.goals) ≤ most_larger =
-    few_all c.args.slips (c.args.l.states * c.args.l.goals) c.requires.slips_bound (few_places c.requires.fit) in
-    omega (arith, most)
+pub len_in-more-requires : goal.len_in-more-requires
+len_in-more-requires c =
+    let most = few_all c.args.slips (c.args.l.states * c.args.l.goals) c.requires.slips_bound (few_places c.requires.fit) in
+    (omega arith, (omega (arith, most), omega (arith, most)))
 
 pub shape_of-plan-then-more-few : goal.shape_of-plan-then-more-few
 shape_of-plan-then-more-few c =
@@ -81,7 +79,7 @@ returns-then-more-few c =
     let hold : (c.args.slips + 1) * (c.args.l.states * c.args.l.goals) ≤ 64 * (((c.args.slips + 1) * (c.args.l.states * c.args.l.goals) + 63) / 64) =
     omega arith in
     larger_stop c.requires.fit c.args.slips c.loop-few.k c.loop-few.invariant.3 c.one_round-next.ensures (64 * (((c.args.slips + 1) * (c.args.l.states * c.args.l.goals) + 63) / 64)) (hold)
-    (sym c.size_of-more.ensures ∙ c.if-more-few.true ∙ c.loop-few.invariant.2)
+    (sym c.len_in-more.ensures ∙ c.if-more-few.true ∙ c.loop-few.invariant.2)
 
 pub overflow_add-k-in-loop-few : goal.overflow_add-k-in-loop-few
 overflow_add-k-in-loop-few c =
@@ -93,19 +91,19 @@ overflow_add-k-in-loop-few c =
 
 pub loop-few-smaller : goal.loop-few-smaller
 loop-few-smaller c =
-    let more : c.loop-few.few < c.size_of-more.result =
+    let more : c.loop-few.few < c.len_in-more.result =
     let grows = larger_grows c.requires.fit c.args.slips c.loop-few.k c.loop-few.invariant.3 c.one_round-next.ensures (64 * (((c.args.slips + 1) * (c.args.l.states * c.args.l.goals) + 63) / 64)) in
-    omega (arith, c.loop-few.invariant.2, c.size_of-more.ensures, grows, c.if-more-few.false) in
+    omega (arith, c.loop-few.invariant.2, c.len_in-more.ensures, grows, c.if-more-few.false) in
     omega (arith, more, c.loop-few-test.true)
 
 pub loop-few-preserved : goal.loop-few-preserved
 loop-few-preserved c =
-    let more : c.loop-few.few < c.size_of-more.result =
+    let more : c.loop-few.few < c.len_in-more.result =
     let grows = larger_grows c.requires.fit c.args.slips c.loop-few.k c.loop-few.invariant.3 c.one_round-next.ensures (64 * (((c.args.slips + 1) * (c.args.l.states * c.args.l.goals) + 63) / 64)) in
-    omega (arith, c.loop-few.invariant.2, c.size_of-more.ensures, grows, c.if-more-few.false) in (
+    omega (arith, c.loop-few.invariant.2, c.len_in-more.ensures, grows, c.if-more-few.false) in (
       omega (arith, c.loop-few.invariant.0, more),
       omega (arith, c.loop-few.invariant.1, c.one_round-next.ensures.as_long),
-      c.size_of-more.ensures,
+      c.len_in-more.ensures,
       larger_more c.requires.fit c.args.slips c.loop-few.k c.loop-few.invariant.3 c.one_round-next.ensures,
     )
 

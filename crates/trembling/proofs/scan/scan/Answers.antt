@@ -12,7 +12,7 @@ pub loop-k-init : goal.loop-k-init
 loop-k-init c =
     let r = c.requires.range in
     let n = c.no_tally-none.ensures in
-    (omega arith, r.in_order, scanning_none r.begins n.0 n.1 n.2, scanning_none r.begins n.0 n.1 n.2)
+    (scanning_none r.begins n.0 n.1 n.2, scanning_none r.begins n.0 n.1 n.2)
 
 pub move_at-m-requires : goal.move_at-m-requires
 move_at-m-requires c =
@@ -30,7 +30,7 @@ number_entered-i-requires c =
     record {
       fit = c.requires.fit;
       q_lt_goals = c.requires.q_lt_goals;
-      t_lt_states = rw c.move_at-m.ensures (outcome_below c.requires.fit c.loop-k.k there);
+      t_lt_states = rw (c.from.ensures, c.move_at-m.ensures) (outcome_below c.requires.fit c.loop-k.k there);
     }
 
 pub overflow_add-own : goal.overflow_add-own
@@ -41,12 +41,6 @@ pub overflow_add-less : goal.overflow_add-less
 overflow_add-less c =
     omega (arith, c.number_entered-i.ensures.0, c.requires.goals_bound_2)
 
-pub overflow_add-k : goal.overflow_add-k
-overflow_add-k c =
-    let there : c.loop-k.k < c.args.l.records =
-    rw (records_said c.requires.fit) (range_few c.requires.range c.loop-k-test.true) in
-    omega (arith, there, few_records c.requires.fit)
-
 pub loop-k-preserved : goal.loop-k-preserved
 loop-k-preserved c =
     let there : c.loop-k.k < c.args.l.records =
@@ -54,22 +48,20 @@ loop-k-preserved c =
     let k = c.loop-k.k in
     let i = c.loop-k.invariant in
     let m = c.move_at-m.ensures in
-    let n = c.number_entered-i.ensures in
-    let here = inside_known c.args.own c.args.words.now n c.requires.goals_bound c.has_larger-here.ensures in
-    let below = inside_known c.args.less c.args.words.now n c.requires.goals_bound_2 c.has_larger-below.ensures in
-    let of-state = range_state c.requires.range i.0 c.loop-k-test.true in
-    let few = action_few c.requires.fit k (there) in (
-      omega arith,
-      omega arith,
-      scanning_more m of-state few here c.add_record-x_own.ensures i.2,
-      scanning_more m of-state few below c.add_record-x_less.ensures i.3,
+    let n = rw c.from.ensures at c.number_entered-i.ensures in
+    let here = inside_known c.args.own c.args.places.now.words n c.requires.goals_bound c.has-here.ensures in
+    let below = inside_known c.args.less c.args.places.now.words n c.requires.goals_bound_2 c.has-below.ensures in
+    let of-state = range_state c.requires.range (omega arith) c.loop-k-test.true in
+    let few = action_few c.requires.fit k there in (
+      scanning_more m of-state few here c.add_record.ensures i.0,
+      scanning_more m of-state few below c.add_record-in-loop-k.ensures i.1,
     )
 
 pub returns : goal.returns
 returns c =
     let i = c.loop-k.invariant in
-    let e : c.loop-k.k ≡ c.args.end = omega arith in
+    let e : c.loop-k.k ≡ c.args.end = omega (arith, c.requires.range.in_order) in
     record {
-      here = scanning_all c.requires.range.ends (rw e at i.2);
-      below = scanning_all c.requires.range.ends (rw e at i.3);
+      here = scanning_all c.requires.range.ends (rw e at i.0);
+      below = scanning_all c.requires.range.ends (rw e at i.1);
     }

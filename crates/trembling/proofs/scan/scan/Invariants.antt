@@ -8,8 +8,5 @@ use Rattle.trembling.proofs.scan.scan.Given as goal
 
 abbrev pub invariant-loop-k : goal.invariant-loop-k
 invariant-loop-k l =
-    (l.start ≤ l.k) × (l.k ≤ l.end) × Scanning (said l.job) (from_base l.l.goals l.words l.own) (place l.s l.q) l.k l.x.own
-    × Scanning (said l.job) (from_base l.l.goals l.words l.less) (place l.s l.q) l.k l.x.less
-
-abbrev pub decreases-loop-k : goal.decreases-loop-k
-decreases-loop-k l = l.end - l.k
+    Scanning (said l.job) (from_base l.l.goals l.places.words l.own) (place l.s l.q) l.k l.x.own
+    × Scanning (said l.job) (from_base l.l.goals l.places.words l.less) (place l.s l.q) l.k l.x.less
