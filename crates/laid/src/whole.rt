@@ -14,6 +14,7 @@ pub fn count(moves: &[u8]) -> usize
 /// What a job is made of, in numbers.
 #[derive(Clone, Copy, Debug, PartialEq, Eq)]
 pub struct Sizes {
+    // a truth and no form of the job's: this crate rests on nothing of the job
     pub tall: bool,
     pub states: usize,
     pub actions: usize,
