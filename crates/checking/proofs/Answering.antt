@@ -6,6 +6,7 @@ use mathlib.Core.Path.{◌≡◌, refl, sym, ◌∙◌, subst}
 use native.Mathlib.Omega.{arith}
 use borrow.Author.Tests.{lt-ltb, le-ltb}
 use lib.ListN.{length}
+use Rattle.std.specs.Prelude.{Err}
 use Rattle.rules.specs.Job.{places}
 use Rattle.rules.specs.Bytes.{fault, refusal, said}
 use Rattle.rules.specs.Calls.{Planning}
@@ -15,22 +16,21 @@ use Rattle.rules.specs.declared.answer.Refusal.{Refusal}
 use Rattle.rules.proofs.Kept.{kept}
 use Rattle.rules.proofs.Figures.{refusal_some}
 use Rattle.sets.proofs.Bits.{below_or}
-use Rattle.sets.specs.Sets.{set_room}
 use Rattle.job.specs.Layout.{Fit}
 use Rattle.job.specs.declared.layout.Layout.{Layout}
-use Rattle.job.proofs.Asking.{goals_said, places_said, few_places}
+use Rattle.job.proofs.Asking.{goals_said, places_said}
 use Rattle.rules.proofs.Planned.{planned_exactly, planned_right}
 use Rattle.checking.specs.Checking.{Checking, refused, no_room, checked_figures, Checks}
 use Rattle.checking.specs.Fits.{fits_at, Until, from_first}
-use Rattle.checking.specs.declared.check.Checked.{Checked}
+use Rattle.checking.specs.declared.check.CheckError.{CheckError}
 use Rattle.checking.proofs.Fitting.{checked_passed, checked_wrong}
 
 pub checks_refused : (b p : List ℕ) (r : Refusal) → fault b ≡ refusal_fault r → (refusal b ≡ 0 → ⊥)
-    → Checks b p (checked_figures (Checked.Refused r))
+    → Checks b p (checked_figures (Err (CheckError.Refused r)))
 checks_refused b p r e n = subst (λ (x : Fault). Checking b p x 0 0) e (refused n)
 
 module _ {b : List ℕ} {l : Layout} (t : Fit b l) (p : List ℕ) where
-  pub checks_room : length p < 4 * (l.states * l.goals) → Checks b p (checked_figures (Checked.Refused Refusal.Room))
+  pub checks_room : length p < 4 * (l.states * l.goals) → Checks b p (checked_figures (Err (CheckError.Refused Refusal.Room)))
   checks_room h = no_room ((kept b).1 t.keeps) (let n = places_said t in omega arith)
 
   -- a job that was read is planned where there is room

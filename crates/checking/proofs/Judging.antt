@@ -1,14 +1,13 @@
 -- What the functions of the check find, step by step.
 use Prim.Native.Nat.{ℕ, suc, ◌+◌, ◌*◌, ◌≤◌, ◌<◌}
-use mathlib.Core.Bool.{Bool, true, false, cond, not, ◌&&◌, ◌||◌, and-true, and-false, or-false, false≢true}
+use mathlib.Core.Bool.{Bool, true, false, cond, not, ◌&&◌, ◌||◌, and-true, and-false, false≢true}
 use mathlib.Core.List.{List}
 use mathlib.Core.Logic.{◌⊎◌, ⊎_elim, ⊎_map}
-use mathlib.Core.Path.{◌≡◌, refl, sym, ap, ap₂, ◌∙◌}
-use native.Mathlib.Numerals.{add-one}
+use mathlib.Core.Path.{◌≡◌, refl, sym, ap₂, ◌∙◌}
 use native.Mathlib.Omega.{arith}
 use borrow.Author.Tests.{eq-eqb, ne_eqb}
 use lib.Arith.{digits_div, digits_mod}
-use lib.Dec.{ltb, eqb}
+use lib.Dec.{eqb}
 use Rattle.rules.specs.Job.{Job, place, entered, arena}
 use Rattle.rules.specs.Bytes.{said}
 use Rattle.rules.specs.Plan.{entry, planned_entry}
@@ -27,36 +26,7 @@ use Rattle.labelling.proofs.Scanning.{found, found_none, found_more, found_all}
 use Rattle.checking.specs.declared.entries.Seen.{Seen}
 use Rattle.checking.specs.Fits.{outcome_test, does, fits_at, Until, Looked}
 
--- ---- the test of an outcome, case by case
-
-module _ (r e : Entry) where
-  pub test_wins : r.value ≡ 2 → e.value ≡ 2 → ltb e.number r.number ≡ outcome_test r e
-  test_wins p q = rw (eq-eqb r.value 2 p, eq-eqb e.value 2 q)
-
-  pub test_wins_no : r.value ≡ 2 → (e.value ≡ 2 → ⊥) → false ≡ outcome_test r e
-  test_wins_no p q = rw (eq-eqb r.value 2 p, ne_eqb e.value 2 q)
-
-  module _ (p : r.value ≡ 2 → ⊥) where
-    pub test_near : e.value ≡ 2 → eqb r.number 1 ≡ outcome_test r e
-    test_near q =
-        rw (ne_eqb r.value 2 p, eq-eqb e.value 2 q, ne_eqb e.value 1 (λ (z : e.value ≡ 1). omega arith))
-        (sym (or-false _ ∙ and-true _))
-
-    pub test_next : (e.value ≡ 2 → ⊥) → e.value ≡ 1 → eqb (e.number + 1) r.number ≡ outcome_test r e
-    test_next q z =
-        rw (ne_eqb r.value 2 p, ne_eqb e.value 2 q, eq-eqb e.value 1 z, and-false (eqb r.number 1), add-one e.number)
-
-    pub test_none : (e.value ≡ 2 → ⊥) → (e.value ≡ 1 → ⊥) → false ≡ outcome_test r e
-    test_none q z = rw (ne_eqb r.value 2 p, ne_eqb e.value 2 q, ne_eqb e.value 1 z, and-false (eqb r.number 1))
-
--- ---- what is seen with one outcome more
-
-module _ (does h s : Bool) where
-  pub see_does : does ≡ true → (true ≡ (does || h)) × (s ≡ (not does || s))
-  see_does d = (rw d, rw d)
-
-  pub see_not : does ≡ false → (h ≡ (does || h)) × (true ≡ (not does || s))
-  see_not d = (rw d, rw d)
+-- ---- the records of a state
 
 -- what the first k records show of action a at p
 pub record Looking (j : Job) (f : Place → Bool) (p : Place) (a k : ℕ) (x : Seen) : Type 0 where
@@ -121,67 +91,39 @@ sure_held {A} f xs = sure_some f xs ∙ mixed (some (λ t. true) xs) (some f xs)
     back : some f xs ≡ true → some (λ t. true) xs ≡ true
     back e = let (t, m, p) = some_found f xs e in some_true (λ t. true) xs t m refl
 
-pick : (a b c d x y z : Bool) → a ≡ true → b ≡ true → c ≡ false → (a && (b && cond c x (cond d y z))) ≡ cond d y z
-pick a b c d x y z p q r = rw (p, q, r)
+-- the entry x, where r is the right one: `every` and `one` say whether all outcomes of its action do, and whether one does
+abbrev pub judged : Entry → Entry → Bool → Bool → Bool
+judged x r every one =
+    eqb x.value r.value
+    && (eqb x.number r.number && cond (eqb r.action 255) (eqb x.action 255) (cond (eqb r.value 2) every one))
 
 module _ {b : List ℕ} {l : Layout} (t : Fit b l) (own p : List ℕ) (s : ℕ) {q : ℕ} (g : q < l.goals) {given right : Entry}
     (eg : given ≡ entry p (s * l.goals + q)) (er : right ≡ entry own (s * l.goals + q)) where
-  abbrev i : ℕ
-  i = s * l.goals + q
+  abbrev does_at : Entry → Place → Bool
+  does_at r z = outcome_test r (planned_entry (said b) own z)
 
-  -- the entry x, where r is the right one
-  abbrev judged : Entry → Entry → Bool
-  judged x r =
+  abbrev led : List Place
+  led = (arena (said b)).leads (place s q) given.action
+
+  abbrev by_does : Entry → Entry → Bool
+  by_does x r =
       eqb x.value r.value
       && (eqb x.number r.number && does (arena (said b)) (planned_entry (said b) own) (place s q) r x.action)
 
-  here : fits_at b own p i ≡ judged given right
-  here =
-      let e : fits_at b own p i ≡ judged (entry p i) (entry own i) = rw (← goals_said t, digits_div s g, digits_mod s g) in
-      e ∙ ap₂ judged (sym eg) (sym er)
+  -- the entry there
+  pub judged_there : fits_at b own p (s * l.goals + q) ≡ judged given right (sure (does_at right) led) (some (does_at right) led)
+  judged_there =
+      let e : fits_at b own p (s * l.goals + q) ≡ by_does (entry p (s * l.goals + q)) (entry own (s * l.goals + q)) =
+      rw (← goals_said t, digits_div s g, digits_mod s g) in
+      e ∙ ap₂ by_does (sym eg) (sym er)
 
-  pub other_value : (given.value ≡ right.value → ⊥) → false ≡ fits_at b own p i
-  other_value n = sym (here ∙ rw (ne_eqb given.value right.value n))
-
-  module _ (v : given.value ≡ right.value) where
-    pub other_number : (given.number ≡ right.number → ⊥) → false ≡ fits_at b own p i
-    other_number n =
-        sym (here ∙ rw (eq-eqb given.value right.value v, ne_eqb given.number right.number n))
-
-    module _ (m : given.number ≡ right.number) where
-      pub no_action : right.action ≡ 255 → eqb given.action 255 ≡ fits_at b own p i
-      no_action a =
-          sym (here
-          ∙ rw (eq-eqb given.value right.value v, eq-eqb given.number right.number m, eq-eqb right.action 255 a))
-
-      module _ (a : right.action ≡ 255 → ⊥) {x : Seen} (k : Looked b own right (place s q) given.action x) where
-        abbrev every_one : Bool
-        every_one = sure (λ t. outcome_test right (planned_entry (said b) own t)) ((arena (said b)).leads (place s q) given.action)
-
-        abbrev some_one : Bool
-        some_one = some (λ t. outcome_test right (planned_entry (said b) own t)) ((arena (said b)).leads (place s q) given.action)
-
-        by_value : fits_at b own p i ≡ cond (eqb right.value 2) every_one some_one
-        by_value =
-            here
-            ∙ pick (eqb given.value right.value) (eqb given.number right.number) (eqb right.action 255) (eqb right.value 2)
-            (eqb given.action 255) every_one some_one (eq-eqb given.value right.value v)
-            (eq-eqb given.number right.number m) (ne_eqb right.action 255 a)
-
-        winning_entry : right.value ≡ 2 → (x.held && not x.spoilt) ≡ fits_at b own p i
-        winning_entry w =
-            ap₂ (λ (h s : Bool). h && not s) k.held k.spoilt
-            ∙ sym (sure_held (λ t. outcome_test right (planned_entry (said b) own t)) ((arena (said b)).leads (place s q) given.action))
-            ∙ sym (by_value ∙ ap (λ (c : Bool). cond c every_one some_one) (eq-eqb right.value 2 w))
-
-        pub winning_no : right.value ≡ 2 → x.spoilt ≡ true → false ≡ fits_at b own p i
-        winning_no w e = sym (and-false x.held) ∙ ap (λ (s : Bool). x.held && not s) (sym e) ∙ winning_entry w
-
-        pub winning_yes : right.value ≡ 2 → x.spoilt ≡ false → x.held ≡ fits_at b own p i
-        winning_yes w e = sym (and-true x.held) ∙ ap (λ (s : Bool). x.held && not s) (sym e) ∙ winning_entry w
-
-        pub pending_entry : (right.value ≡ 2 → ⊥) → x.held ≡ fits_at b own p i
-        pending_entry w = k.held ∙ sym (by_value ∙ ap (λ (c : Bool). cond c every_one some_one) (ne_eqb right.value 2 w))
+  -- the same by what the records show
+  pub judged_seen : {x : Seen} → Looked b own right (place s q) given.action x
+      → fits_at b own p (s * l.goals + q) ≡ judged given right (x.held && not x.spoilt) x.held
+  judged_seen {x} k =
+      judged_there
+      ∙ ap₂ (judged given right)
+      (sure_held (does_at right) led ∙ ap₂ (λ (h s : Bool). h && not s) (sym k.held) (sym k.spoilt)) (sym k.held)
 
 -- ---- entry after entry
 

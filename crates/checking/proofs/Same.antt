@@ -1,9 +1,8 @@
 -- Two jobs in bytes that keep the rules and say the same: the check of a plan answers them alike, also where one is the other rewritten.
-use Prim.Native.Nat.{ℕ, ◌*◌, ◌<◌, ◌≤◌}
+use Prim.Native.Nat.{ℕ, ◌*◌, ◌<◌}
 use mathlib.Core.List.{List}
 use mathlib.Core.Path.{◌≡◌, sym, ◌∙◌, subst}
 use native.Mathlib.Omega.{arith}
-use lib.ListN.{length}
 use Rattle.game.specs.Game.{Arena, Inside, Lawful}
 use Rattle.game.specs.Allowed.{Allowed, lost, met, wins, hopes}
 use Rattle.game.specs.declared.entry.Entry.{Entry}
@@ -12,7 +11,7 @@ use Rattle.rules.specs.Job.{place, entry_number, arena}
 use Rattle.rules.specs.Fault.{Fault}
 use Rattle.rules.specs.Bytes.{said}
 use Rattle.rules.specs.Keeps.{Keeps}
-use Rattle.rules.specs.Plan.{entry, room, planned_entry}
+use Rattle.rules.specs.Plan.{entry, room}
 use Rattle.rules.specs.Retold.{SameJob, retold}
 use Rattle.rules.proofs.Kept.{kept}
 use Rattle.rules.proofs.Arenas.{inside_iff, arena_lawful}

@@ -1,12 +1,12 @@
 -- What the check of a plan from elsewhere answers, on every input: document 02, "Check a plan from elsewhere".
-use Rattle.std.specs.Prelude.{ℕ, ◌≤◌, ◌<◌, List, ◌≡◌, length}
+use Rattle.std.specs.Prelude.{ℕ, ◌≤◌, ◌<◌, List, ◌≡◌, length, Result, Ok, Err}
 use Rattle.game.specs.Allowed.{Allowed}
 use Rattle.rules.specs.Job.{place, entry_number, arena}
 use Rattle.rules.specs.Fault.{Fault, only}
 use Rattle.rules.specs.Bytes.{fault, refusal, said}
 use Rattle.rules.specs.Plan.{room, planned_entry}
 use Rattle.rules.specs.Answers.{refusal_fault}
-use Rattle.checking.specs.declared.check.Checked.{Checked}
+use Rattle.checking.specs.declared.check.CheckError.{CheckError}
 
 module _ (b p : List ℕ) where
   -- what the plan p says at state s and goal state q of the job b is allowed, on its own account: no other entry of p is asked
@@ -35,10 +35,10 @@ pub record CheckedFigures : Type 0 where
   pub state : ℕ
   pub goal : ℕ
 
-abbrev pub checked_figures : Checked → CheckedFigures
-checked_figures Checked.Right = record { fault = only 0; state = 0; goal = 0 }
-checked_figures (Checked.Wrong s q) = record { fault = only 16; state = s; goal = q }
-checked_figures (Checked.Refused r) = record { fault = refusal_fault r; state = 0; goal = 0 }
+abbrev pub checked_figures : Result (Unit {0}) CheckError → CheckedFigures
+checked_figures (Ok x) = record { fault = only 0; state = 0; goal = 0 }
+checked_figures (Err (CheckError.Wrong s q)) = record { fault = only 16; state = s; goal = q }
+checked_figures (Err (CheckError.Refused r)) = record { fault = refusal_fault r; state = 0; goal = 0 }
 
 -- the figures are those that the check of the plan p for the job b answers
 abbrev pub Checks : (b p : List ℕ) → CheckedFigures → Type 0

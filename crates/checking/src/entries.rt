@@ -9,9 +9,10 @@ ghost use Rattle.checking.specs.Fits.{outcome_test, fits_at, Until, Looked, Read
 
 use game::entry::Entry;
 use job::layout::Layout;
+use rules::answer::Value;
 
 // What the records of a state show of an action: whether an outcome does, and whether one does not.
-#[derive(Clone, Copy)]
+#[derive(Clone, Copy, Debug, PartialEq, Eq)]
 pub struct Seen {
     pub held: bool,
     pub spoilt: bool,
@@ -21,19 +22,13 @@ pub struct Seen {
 fn outcome_does(r: Entry, e: Entry) -> bool
     ensures { result ≡ outcome_test r e }
 {
-    if r.value == 2 {
-        if e.value == 2 {
-            return e.number < r.number;
-        }
-        return false;
+    match (Value::try_from(r.value), Value::try_from(e.value)) {
+        (Ok(Value::Winning), Ok(Value::Winning)) => e.number < r.number,
+        (Ok(Value::Winning), _) => false,
+        (_, Ok(Value::Winning)) => r.number == 1,
+        (_, Ok(Value::Pending)) => e.number as usize + 1 == r.number as usize,
+        _ => false,
     }
-    if e.value == 2 {
-        return r.number == 1;
-    }
-    if e.value == 1 {
-        return e.number as usize + 1 == r.number as usize;
-    }
-    false
 }
 
 // Whether the place that is entered with state t from goal state q does.
@@ -53,12 +48,10 @@ fn entered_does(job: &[u8], l: Layout, own: &[u8], q: usize, t: usize, r: Entry)
 fn see(x: Seen, does: bool) -> Seen
     ensures { (result.held ≡ (does || x.held)) × (result.spoilt ≡ (not does || x.spoilt)) }
 {
-    if does {
-        let spoilt = x.spoilt;
-        return Seen { held: true, spoilt };
+    Seen {
+        held: does || x.held,
+        spoilt: !does || x.spoilt,
     }
-    let held = x.held;
-    Seen { held, spoilt: true }
 }
 
 // What the records of state s, from start up to end, show of action a at the place with goal state q, of which the right entry is r.
@@ -83,16 +76,13 @@ fn look(
         held: false,
         spoilt: false,
     };
-    let mut k = start;
-    while k < end {
+    for k in start..end {
         let m = job::ask::move_at(job, l, k);
         if m.action != a {
-            k += 1;
             continue;
         }
         let does = entered_does(job, l, own, q, m.outcome as usize, r);
         x = see(x, does);
-        k += 1;
     }
     x
 }
@@ -115,23 +105,17 @@ fn fits_place(
     let i = s * l.goals + q;
     let given = rules::entry::read_entry(plan, i);
     let right = rules::entry::read_entry(own, i);
-    if given.value != right.value {
+    if given.value != right.value || given.number != right.number {
         return false;
     }
-    if given.number != right.number {
-        return false;
-    }
-    if right.action == 255 {
-        return given.action == 255;
+    if right.named().is_none() {
+        return given.named().is_none();
     }
     let seen = look(job, l, own, s, q, start, end, given.action, right);
-    if right.value == 2 {
-        if seen.spoilt {
-            return false;
-        }
-        return seen.held;
+    match Value::try_from(right.value) {
+        Ok(Value::Winning) => seen.held && !seen.spoilt,
+        _ => seen.held,
     }
-    seen.held
 }
 
 // The number of the first entry of state s that may not stand where it stands, or that of the next state's first.
@@ -149,15 +133,12 @@ fn fits_state(
 {
     let goals = l.goals;
     let first = s * goals;
-    let mut q: usize = 0;
-    while q < goals {
-        if fits_place(job, l, plan, own, s, q, start, end) {
-            q += 1;
-            continue;
+    for q in 0..goals {
+        if !fits_place(job, l, plan, own, s, q, start, end) {
+            return first + q;
         }
-        return first + q;
     }
-    first + q
+    first + goals
 }
 
 // The number of the first entry that may not stand where it stands, or the count of places.
@@ -170,15 +151,13 @@ pub fn fits_all(job: &[u8], l: Layout, plan: &[u8], own: &[u8]) -> usize
     let states = l.states;
     let goals = l.goals;
     let mut start: usize = 0;
-    let mut s: usize = 0;
-    while s < states {
+    for s in 0..states {
         let end = labelling::range::range_end(job, l, s, start);
         let x = fits_state(job, l, plan, own, s, start, end);
         if x < s * goals + goals {
             return x;
         }
         start = end;
-        s += 1;
     }
-    s * goals
+    states * goals
 }

@@ -9,7 +9,7 @@ use Rattle.checking.proofs.check.check_by.Goals as goal
 pub fits_all-x-requires : goal.fits_all-x-requires
 fits_all-x-requires c =
     let t = c.requires in
-    let d = planned_long (rw c.in-Done.is at c.plan.ensures) refl in
+    let d = planned_long c.in_ok-plan.ensures refl in
     record {
       fit = t.fit;
       goals_in_bounds = t.goals_in_bounds_2;
@@ -27,12 +27,11 @@ answer-requires c =
       n_le_set_room = few_places t;
     }
 
-pub returns-in-Refused : goal.returns-in-Refused
-returns-in-Refused c =
-    absurd (never_refused c.requires.fit c.args.plan.now c.in-Refused.r
-    (rw c.in-Refused.is at c.plan.ensures) c.requires.goals_in_bounds)
+pub returns-in_err-plan : goal.returns-in_err-plan
+returns-in_err-plan c =
+    absurd (never_refused c.requires.fit c.args.plan.now _ c.in_err-plan.ensures c.requires.goals_in_bounds)
 
-pub returns-in-Done : goal.returns-in-Done
-returns-in-Done c =
+pub returns : goal.returns
+returns c =
     rw c.answer.ensures (checks_from c.requires.fit c.args.plan.now c.requires.goals_in_bounds_2
-    (rw c.in-Done.is at c.plan.ensures) c.fits_all-x.ensures)
+    c.in_ok-plan.ensures c.fits_all-x.ensures)

@@ -1,5 +1,5 @@
 -- `fits_all` meets its contract: every state passed has entries that may all stand where they stand.
-use Prim.Native.Nat.{◌*◌, ◌-◌, ◌≤◌}
+use Prim.Native.Nat.{◌*◌}
 use Rattle.rules.specs.Bytes.{said}
 use Rattle.labelling.specs.Scan.{From}
 use Rattle.checking.specs.Fits.{fits_at}
@@ -8,7 +8,4 @@ use Rattle.checking.proofs.entries.fits_all.Given as goal
 
 abbrev pub invariant-loop-s : goal.invariant-loop-s
 invariant-loop-s l =
-    (l.s ≤ l.states) × From (said l.job) l.s l.start × AllFrom (fits_at l.job l.own l.plan) 0 (l.s * l.l.goals)
-
-abbrev pub decreases-loop-s : goal.decreases-loop-s
-decreases-loop-s l = l.states - l.s
+    From (said l.job) l.s l.start × AllFrom (fits_at l.job l.own l.plan) 0 (l.s * l.l.goals)

@@ -1,6 +1,5 @@
 -- `fits_state` meets its contract: every entry passed may stand where it stands.
-use Prim.Native.Nat.{◌-◌}
-use mathlib.Core.Path.{sym, ◌∙◌}
+use mathlib.Core.Path.{◌≡◌, refl, sym, ◌∙◌}
 use native.Mathlib.Omega.{arith}
 use lib.Arith.{digits_lt}
 use Rattle.job.proofs.Asking.{few_places, some_goals, few_goals}
@@ -13,7 +12,7 @@ overflow_mul-first c =
     omega (arith, few_places p.fit, digits_lt p.state (some_goals p.fit))
 
 pub loop-q-init : goal.loop-q-init
-loop-q-init c = (omega arith, all_none (omega arith))
+loop-q-init c = all_none (omega arith)
 
 pub fits_place-requires : goal.fits_place-requires
 fits_place-requires c =
@@ -24,22 +23,23 @@ fits_place-requires c =
 
 pub loop-q-preserved : goal.loop-q-preserved
 loop-q-preserved c =
-    (omega arith, all_more c.loop-q.invariant.1 (sym c.fits_place.ensures ∙ c.if-fits_place.true) (omega arith))
+    all_more c.loop-q.invariant (sym c.fits_place.ensures ∙ c.if-not-fits_place.false) (omega arith)
 
 pub overflow_add-result : goal.overflow_add-result
 overflow_add-result c =
     let p = c.requires in
     omega (arith, few_places p.fit, digits_lt p.state c.loop-q-test.true)
 
-pub returns-in-loop-q : goal.returns-in-loop-q
-returns-in-loop-q c =
-    until_fail c.loop-q.invariant.1 (omega arith) (omega (arith, c.loop-q.invariant.0)) (sym c.fits_place.ensures ∙ c.if-fits_place.false)
+pub returns-then-not-fits_place : goal.returns-then-not-fits_place
+returns-then-not-fits_place c =
+    until_fail c.loop-q.invariant (omega arith) (omega arith) (sym c.fits_place.ensures ∙ c.if-not-fits_place.true)
 
 pub overflow_add-result-2 : goal.overflow_add-result-2
 overflow_add-result-2 c =
     let p = c.requires in
-    omega (arith, few_places p.fit, digits_lt p.state (some_goals p.fit), few_goals p.fit, c.loop-q.invariant.0)
+    omega (arith, few_places p.fit, digits_lt p.state (some_goals p.fit), few_goals p.fit)
 
 pub returns : goal.returns
 returns c =
-    until_end c.loop-q.invariant.1 (omega arith) (omega (arith, c.loop-q.invariant.0, c.loop-q-test.false))
+    let e : c.loop-q.q ≡ c.args.l.goals = omega arith in
+    until_end (rw e at c.loop-q.invariant) (omega arith) refl

@@ -1,5 +1,5 @@
 -- `look` meets its contract: what is seen is what the records passed show.
-use Prim.Native.Nat.{◌-◌, ◌<◌}
+use Prim.Native.Nat.{◌<◌}
 use mathlib.Core.Path.{◌≡◌, refl}
 use native.Mathlib.Omega.{arith}
 use Rattle.rules.specs.Job.{place}
@@ -10,7 +10,7 @@ use Rattle.checking.proofs.entries.look.Goals as goal
 
 pub loop-k-init : goal.loop-k-init
 loop-k-init c =
-    let r = c.requires.range in (omega arith, r.in_order, looking_none r.begins refl refl)
+    looking_none c.requires.range.begins refl refl
 
 pub move_at-m-requires : goal.move_at-m-requires
 move_at-m-requires c =
@@ -24,11 +24,7 @@ move_at-m-requires c =
 pub loop-k-preserved-then-m-a : goal.loop-k-preserved-then-m-a
 loop-k-preserved-then-m-a c =
     let p = c.requires in
-    let i = c.loop-k.invariant in (
-      omega arith,
-      omega arith,
-      looking_other c.move_at-m.ensures (range_state p.range i.0 c.loop-k-test.true) c.if-m-a.true i.2,
-    )
+    looking_other c.move_at-m.ensures (range_state p.range (omega arith) c.loop-k-test.true) c.if-m-a.true c.loop-k.invariant
 
 pub entered_does-does-requires : goal.entered_does-does-requires
 entered_does-does-requires c =
@@ -45,16 +41,12 @@ entered_does-does-requires c =
 pub loop-k-preserved : goal.loop-k-preserved
 loop-k-preserved c =
     let p = c.requires in
-    let i = c.loop-k.invariant in (
-      omega arith,
-      omega arith,
-      looking_more c.move_at-m.ensures (range_state p.range i.0 c.loop-k-test.true)
-          c.if-m-a.false c.entered_does-does.ensures c.see-x.ensures.0 c.see-x.ensures.1 i.2,
-    )
+    looking_more c.move_at-m.ensures (range_state p.range (omega arith) c.loop-k-test.true)
+    c.if-m-a.false c.entered_does-does.ensures c.see-x.ensures.0 c.see-x.ensures.1 c.loop-k.invariant
 
 pub returns : goal.returns
 returns c =
-    let i = c.loop-k.invariant in
+    let o = c.requires.range.in_order in
     let e : c.loop-k.k ≡ c.args.end = omega arith in
     looked_all c.args.job.now c.args.own.now c.args.r (place c.args.s c.args.q) c.args.a c.requires.range.ends
-    (rw e at i.2)
+    (rw e at c.loop-k.invariant)

@@ -1,5 +1,4 @@
 -- `look` meets its contract: what is seen is what the records passed show.
-use Prim.Native.Nat.{◌-◌, ◌≤◌}
 use Rattle.rules.specs.Job.{place}
 use Rattle.rules.specs.Bytes.{said}
 use Rattle.rules.specs.Plan.{planned_entry}
@@ -9,7 +8,4 @@ use Rattle.checking.proofs.entries.look.Given as goal
 
 abbrev pub invariant-loop-k : goal.invariant-loop-k
 invariant-loop-k l =
-    (l.start ≤ l.k) × (l.k ≤ l.end) × Looking (said l.job) (λ t. outcome_test l.r (planned_entry (said l.job) l.own t)) (place l.s l.q) l.a l.k l.x
-
-abbrev pub decreases-loop-k : goal.decreases-loop-k
-decreases-loop-k l = l.end - l.k
+    Looking (said l.job) (λ t. outcome_test l.r (planned_entry (said l.job) l.own t)) (place l.s l.q) l.a l.k l.x
