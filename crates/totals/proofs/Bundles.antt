@@ -6,7 +6,7 @@ use mathlib.Core.Logic.{◌↔◌, ◌≢◌}
 use mathlib.Core.Path.{◌≡◌, refl, sym, ap, subst, ◌∙◌}
 use native.Mathlib.Omega.{arith}
 use native.Mathlib.Numerals.{add-one}
-use borrow.Author.Tests.{lt-ltb, le-ltb, eq-eqb, ne_eqb, ltb-false, eqb-true, eqb-false, not-true}
+use borrow.Author.Tests.{le-ltb, ne_eqb, ltb-false, eqb-true, eqb-false, not-true}
 use lib.Dec.{ltb, eqb}
 use lib.ListN.{length, get_or, take, drop, length-append, get_or-append, take-append-drop}
 use lib.Seq.{take_at, drop_at, length-take-le}
@@ -19,9 +19,6 @@ use Rattle.totals.specs.Bundle.{job, jobs_from, jobs, entries_counted, in_order,
 -- ---- the count of the first two bytes
 
 module _ (h : List ℕ) {n : ℕ} (long : 2 ≤ length h) (is : n ≡ entries h) where
-  pub counted_many : 64 < n → 0 ≡ entries_counted h
-  counted_many l = rw (le-ltb (length h) 2 long, lt-ltb 64 (entries h) (omega arith))
-
   pub counted_is : n ≤ 64 → n ≡ entries_counted h
   counted_is l = rw (le-ltb (length h) 2 long, le-ltb 64 (entries h) (omega arith)) is
 
@@ -240,30 +237,3 @@ module _ (h : List ℕ) (i at : ℕ) (x : Bool) (is : at ≡ due h i) (test : x 
   due_next e n s =
       let here : offset h i ≡ due h i = eqb-true (offset h i) (due h i) (sym tested ∙ e) in
       rw (add-one i) (omega (arith, is, here, s))
-
--- ---- the contents by each test
-
-module _ (h : List ℕ) {n : ℕ} (is : n ≡ entries_counted h) where
-  pub fit_none : n ≡ 0 → false ≡ contents_fit h
-  fit_none e = rw (eq-eqb (entries_counted h) 0 (sym is ∙ e))
-
-  module _ (some : n ≢ 0) where
-    counted_some : entries_counted h ≢ 0
-    counted_some e = some (is ∙ e)
-
-    pub fit_other : length h ≢ contents_size n → false ≡ contents_fit h
-    fit_other d =
-        rw (
-          ne_eqb (entries_counted h) 0 counted_some,
-          ne_eqb (length h) (contents_size (entries_counted h)) (λ e. d (e ∙ ap contents_size (sym is))),
-        )
-
-    pub fit_order : length h ≡ contents_size n → {x : Bool} → x ≡ in_order h → x ≡ contents_fit h
-    fit_order l e =
-        rw (
-          ne_eqb (entries_counted h) 0 counted_some,
-          eq-eqb (length h) (contents_size (entries_counted h)) (l ∙ ap contents_size is),
-        ) e
-
-    pub count_is : n ≡ entries h
-    count_is = is ∙ (counted_back h counted_some).is

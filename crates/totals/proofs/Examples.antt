@@ -1,11 +1,10 @@
 -- A small bundle byte by byte: two entries, of one byte and of none; and what a changed byte, one less and one more make of it.
 use Prim.Native.Nat.{ℕ}
-use mathlib.Core.Bool.{true, false, false≢true}
+use mathlib.Core.Bool.{false≢true}
 use mathlib.Core.List.{List, [], ◌∷◌, ◌++◌}
-use mathlib.Core.Path.{◌≡◌, refl, sym, ◌∙◌}
+use mathlib.Core.Path.{◌≡◌, refl}
 use native.Mathlib.Omega.{arith}
-use lib.ListN.{length, take}
-use Rattle.totals.specs.Bundle.{due, entries, Bundle, jobs, contents_fit}
+use Rattle.totals.specs.Bundle.{Bundle, jobs}
 use Rattle.totals.proofs.Bundles.{judged}
 
 -- the contents, where the second entry has this offset; the first begins at 18 and has one byte

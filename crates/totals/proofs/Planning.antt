@@ -4,6 +4,7 @@ use mathlib.Core.List.{List}
 use mathlib.Core.Path.{◌≡◌, refl, sym, ap, subst, ◌∙◌}
 use native.Mathlib.Omega.{arith}
 use lib.ListN.{length}
+use Rattle.std.specs.Prelude.{Err}
 use Rattle.game.specs.declared.entry.Entry.{Entry}
 use Rattle.rules.specs.Job.{entry_number, entered, start}
 use Rattle.rules.specs.Fault.{Fault, only}
@@ -20,21 +21,16 @@ use Rattle.rules.proofs.Planned.{planned_exactly, planned_long, planned_right}
 use Rattle.job.specs.Layout.{Fit}
 use Rattle.job.specs.Reading.{reading, reading_figures}
 use Rattle.job.specs.declared.layout.Layout.{Layout}
-use Rattle.job.specs.declared.layout.Reading.{Reading}
 use Rattle.job.proofs.Asking.{goals_said, places_said, start_said, first_state, first_goal_state, entry_below}
-use Rattle.job.proofs.Readings.{read_fit, read_refused}
-use Rattle.totals.specs.Classes.{entry_room, Falls, refused, by_number, started_class}
+use Rattle.job.proofs.Readings.{read_refused}
+use Rattle.totals.specs.Classes.{entry_room, Falls, RefusedFor, refused, by_number, started_class}
 use Rattle.totals.specs.declared.class.Class.{Class}
 use Rattle.totals.proofs.Falling.{right_falls}
 
--- what reading answered, x, was matched
-pub was_fit : (b : List ℕ) {x : Reading} {l : Layout} → x ≡ Reading.Job l → reading_figures x ≡ reading b → Fit b l
-was_fit b {l = l} i e = read_fit b l (ap reading_figures (sym i) ∙ e)
-
-pub was_refused : (b : List ℕ) {x : Reading} {r : Refusal} {n : ℕ} → length b ≤ entry_room → x ≡ Reading.Refused r
-    → reading_figures x ≡ reading b → n ≡ (refusal_fault r).number → Falls b (Class.Refused n)
-was_refused b {r = r} {n} h i e z =
-    let same : refusal b ≡ n = ap (λ (f : Fault). f.number) (read_refused b r (ap reading_figures (sym i) ∙ e)) ∙ sym z in
+-- what reading refuses falls in the class of its number
+pub read_refuses : (b : List ℕ) (r : Refusal) → length b ≤ entry_room → reading_figures (Err r) ≡ reading b → RefusedFor b r
+read_refuses b r h e =
+    let same : refusal b ≡ (refusal_fault r).number = ap (λ (f : Fault). f.number) (read_refused b r e) in
     refused (by_number h same) (λ o. omega (arith, (refusal_some r).1))
 
 module _ {b : List ℕ} {l : Layout} (f : Fit b l) {own own' : List ℕ} where

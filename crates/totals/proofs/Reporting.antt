@@ -10,7 +10,7 @@ use mathlib.Core.Path.{◌≡◌, refl, sym, ap, subst, ◌∙◌}
 use native.Mathlib.Omega.{arith}
 use native.Mathlib.Nat.{add-zero, le_refl, le_trans, mul-le-mul}
 use native.Mathlib.Numerals.{add-one}
-use borrow.Author.Tests.{ltb-true, ltb-false, lt-ltb, le-ltb}
+use borrow.Author.Tests.{ltb-true, ltb-false}
 use lib.Dec.{ltb}
 use lib.ListN.{length, get_or, set, length-append, length-set}
 use lib.Seq.{get_or-set_same, get_or-set_other, ext_get_or}
@@ -20,6 +20,7 @@ use Rattle.totals.specs.Lists.{HowMany, many_none, Sum, sum_none, First}
 use Rattle.totals.specs.Totals.{count, no_totals, larger_number, larger, added}
 use Rattle.totals.specs.Reported.{sum, LargestOf, nothing, number, Reported, Gathered}
 use Rattle.totals.specs.declared.class.Class.{Class}
+use Rattle.std.specs.Prelude.{Option, Some, None}
 use Rattle.totals.specs.declared.tally.Largest.{Largest}
 use Rattle.totals.specs.declared.tally.Totals.{Totals}
 use Rattle.totals.proofs.Lists.{mem_last, mem_permuted, many_more, many_same, many_few, many_unique, many_permuted}
@@ -82,7 +83,7 @@ module _ {bs : List (List ℕ)} {t : Totals} (r : Reported bs t) {b : List ℕ} 
 
 module _ (bs : List (List ℕ)) (b : List ℕ) where
   -- a job that does not win changes nothing
-  largest_same : {l : Largest} → LargestOf bs l → ((m : ℕ) → WinsBy m b → ⊥) → LargestOf (bs ++ (b ∷ [])) l
+  largest_same : {l : Option Largest} → LargestOf bs l → ((m : ℕ) → WinsBy m b → ⊥) → LargestOf (bs ++ (b ∷ [])) l
   largest_same (nothing h) q =
       nothing (λ n a m w. ⊎_elim (λ k. h n a k w) (λ (e : a ≡ b). q n (subst (WinsBy n) e w)) (mem_last bs b m))
   largest_same (number {n} f h) q =
@@ -95,24 +96,17 @@ module _ (bs : List (List ℕ)) (b : List ℕ) where
   bounded n k most v h nm km m a i w =
       ⊎_elim (λ j. omega (arith, h m a j w)) (λ (e : a ≡ b). omega (arith, wins_same m k (subst (WinsBy m) e w) v)) (mem_last bs b i)
 
-  largest_wins : {l : Largest} (k : ℕ) → LargestOf bs l → WinsBy k b → LargestOf (bs ++ (b ∷ [])) (larger_number l (length bs) k)
+  largest_wins : {l : Option Largest} (k : ℕ) → LargestOf bs l → WinsBy k b → LargestOf (bs ++ (b ∷ [])) (larger_number l (length bs) k)
   largest_wins k (nothing h) v =
       number (first_new bs (λ a m w. h k a m w) v) (bounded 0 k k v (λ m a i w. absurd (h m a i w)) (omega arith) (omega arith))
   largest_wins k (number {n} {i} f h) v = go (ltb n k) refl
     where
       go : (x : Bool) → ltb n k ≡ x
-          → LargestOf (bs ++ (b ∷ [])) (cond x (Largest.Number k (length bs)) (Largest.Number n i))
+          → LargestOf (bs ++ (b ∷ [])) (cond x (Some (record { number = k; job = length bs })) (Some (record { number = n; job = i })))
       go true e =
           let less : n < k = ltb-true n k e in
           number (first_new bs (λ a m w. omega (arith, h k a m w)) v) (bounded n k k v h (omega arith) (omega arith))
       go false e = number (first_kept (b ∷ []) f) (bounded n k n v h (omega arith) (ltb-false n k e))
-
--- by the largest so far, l: a number above it takes its place, another does not
-pub larger_new : {l : Largest} {m i j n : ℕ} → l ≡ Largest.Number m i → m < n → Largest.Number n j ≡ larger_number l j n
-larger_new {m = m} {n = n} e h = rw (e, lt-ltb m n h)
-
-pub larger_kept : {l : Largest} {m i n : ℕ} (j : ℕ) → l ≡ Largest.Number m i → n ≤ m → Largest.Number m i ≡ larger_number l j n
-larger_kept {m = m} {n = n} j e h = rw (e, le-ltb m n h)
 
 module _ {bs : List (List ℕ)} {t : Totals} (r : Reported bs t) {b : List ℕ} where
   largest_more : {c : Class} → Falls b c → LargestOf (bs ++ (b ∷ [])) (larger t.largest t.jobs c)
@@ -196,11 +190,11 @@ totals_exist bs = let (cs, fs) = classes_exist bs in (all_added no_totals cs, to
 -- ---- any other order
 
 -- the number of a largest, if there is one
-abbrev pub number_of : Largest → List ℕ
-number_of Largest.Nothing = []
-number_of (Largest.Number n i) = n ∷ []
+abbrev pub number_of : Option Largest → List ℕ
+number_of None = []
+number_of (Some l) = l.number ∷ []
 
-largest_number : {bs cs : List (List ℕ)} {l k : Largest} → Permᴰ bs cs → LargestOf bs l → LargestOf cs k → number_of l ≡ number_of k
+largest_number : {bs cs : List (List ℕ)} {l k : Option Largest} → Permᴰ bs cs → LargestOf bs l → LargestOf cs k → number_of l ≡ number_of k
 largest_number p (nothing h) (nothing g) = refl
 largest_number p (nothing h) (number {n} f g) =
     let (b, m, w) = first_found f in absurd (h n b (mem_permuted (Permᴰ.symm p) m) w)
@@ -236,7 +230,7 @@ reordered {bs} {cs} {t} {u} p r s = record {
 
 -- ---- one record only
 
-largest_unique : {bs : List (List ℕ)} {l k : Largest} → LargestOf bs l → LargestOf bs k → l ≡ k
+largest_unique : {bs : List (List ℕ)} {l k : Option Largest} → LargestOf bs l → LargestOf bs k → l ≡ k
 largest_unique (nothing h) (nothing g) = refl
 largest_unique (nothing h) (number {n} f g) = let (b, m, w) = first_found f in absurd (h n b m w)
 largest_unique (number {n} f h) (nothing g) = let (b, m, w) = first_found f in absurd (g n b m w)
@@ -245,7 +239,7 @@ largest_unique {bs} (number {n = m} {i} f h) (number {n = n} {i = j} g k) =
     let (c, y, w) = first_found g in
     let e : m ≡ n = omega (arith, k m b x v, h n c y w) in
     let o : i ≡ j = first_unique (subst (λ (z : ℕ). First (WinsBy z) bs i) e f) g in
-    λ z. Largest.Number (e z) (o z)
+    λ z. Some (record { number = e z; job = o z })
 
 -- Two records of totals of one list are the same.
 pub reported_unique : {bs : List (List ℕ)} {t u : Totals} → Reported bs t → Reported bs u → t ≡ u

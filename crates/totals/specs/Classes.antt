@@ -3,7 +3,9 @@ use Rattle.std.specs.Prelude.{ℕ, zero, suc, ◌+◌, ◌≤◌, ◌<◌, cond,
 use Rattle.game.specs.Game.{Winning, Pending, Losing, WinsIn, HopesIn}
 use Rattle.game.specs.declared.entry.Entry.{Entry}
 use Rattle.rules.specs.Job.{start, arena}
+use Rattle.rules.specs.Answers.{refusal_fault}
 use Rattle.rules.specs.Bytes.{refusal, said}
+use Rattle.rules.specs.declared.answer.Refusal.{Refusal}
 use Rattle.totals.specs.declared.class.Class.{Class}
 
 -- how much of an entry is taken in
@@ -69,6 +71,10 @@ pub data Falls (b : List ℕ) : Class → Type 0 where
   pending : {n : ℕ} → HopesBy n b → Falls b (Class.Pending n)
   losing : StartsLosing b → Falls b Class.Losing
   refused : {n : ℕ} → RefusedBy n b → n ≢ 0 → Falls b (Class.Refused n)
+
+-- the entry b falls in the class of those that this refuses
+abbrev pub RefusedFor : List ℕ → Refusal → Type 0
+RefusedFor b why = Falls b (Class.Refused (refusal_fault why).number)
 
 -- every entry of this size that begins with these bytes, the whole of it where it is not longer than what is taken in
 abbrev pub FallsAs : List ℕ → ℕ → Class → Type 0

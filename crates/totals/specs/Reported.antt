@@ -1,5 +1,5 @@
 -- What the totals of a list of jobs are, each from the list itself.
-use Rattle.std.specs.Prelude.{ℕ, ◌+◌, ◌≤◌, ◌<◌, ◌≡◌, length}
+use Rattle.std.specs.Prelude.{ℕ, ◌+◌, ◌≤◌, ◌<◌, ◌≡◌, length, Option, Some, None}
 use mathlib.Core.List.{List, [], ◌∷◌, Memᴰ}
 use Rattle.totals.specs.Classes.{In, WinsBy, HopesBy}
 use Rattle.totals.specs.Lists.{HowMany, Sum, First}
@@ -13,10 +13,10 @@ sum [] = 0
 sum (x ∷ xs) = x + sum xs
 
 -- the largest winning starting number of the jobs and the first job that has it, or that none wins
-pub data LargestOf (bs : List (List ℕ)) : Largest → Type 0 where
-  nothing : ((n : ℕ) (b : List ℕ) → Memᴰ b bs → WinsBy n b → ⊥) → LargestOf bs Largest.Nothing
+pub data LargestOf (bs : List (List ℕ)) : Option Largest → Type 0 where
+  nothing : ((n : ℕ) (b : List ℕ) → Memᴰ b bs → WinsBy n b → ⊥) → LargestOf bs None
   number : {n i : ℕ} → First (WinsBy n) bs i → ((m : ℕ) (b : List ℕ) → Memᴰ b bs → WinsBy m b → m ≤ n)
-      → LargestOf bs (Largest.Number n i)
+      → LargestOf bs (Some (record { number = n; job = i }))
 
 -- `Reported bs t`: t are the totals of the jobs bs
 pub record Reported (bs : List (List ℕ)) (t : Totals) : Type 0 where

@@ -1,5 +1,5 @@
 -- The totals as a record, and the step that adds the class of one job.
-use Rattle.std.specs.Prelude.{ℕ, ◌+◌, cond, ltb, get_or, set, replicate}
+use Rattle.std.specs.Prelude.{ℕ, ◌+◌, cond, ltb, get_or, set, replicate, Option, Some, None}
 use Rattle.totals.specs.Classes.{line, winning_number, pending_number}
 use Rattle.totals.specs.declared.class.Class.{Class}
 use Rattle.totals.specs.declared.tally.Largest.{Largest}
@@ -10,14 +10,14 @@ abbrev pub count : Totals → ℕ → ℕ
 count t k = get_or t.counts k 0
 
 abbrev pub no_totals : Totals
-no_totals = record { jobs = 0; counts = replicate 11 0; winning_sum = 0; pending_sum = 0; largest = Largest.Nothing }
+no_totals = record { jobs = 0; counts = replicate 11 0; winning_sum = 0; pending_sum = 0; largest = None }
 
 -- the larger of the largest so far and the number n of job j; of two that are the same, the first
-abbrev pub larger_number : Largest → ℕ → ℕ → Largest
-larger_number Largest.Nothing j n = Largest.Number n j
-larger_number (Largest.Number m i) j n = cond (ltb m n) (Largest.Number n j) (Largest.Number m i)
+abbrev pub larger_number : Option Largest → ℕ → ℕ → Option Largest
+larger_number None j n = Some (record { number = n; job = j })
+larger_number (Some l) j n = cond (ltb l.number n) (Some (record { number = n; job = j })) (Some l)
 
-abbrev pub larger : Largest → ℕ → Class → Largest
+abbrev pub larger : Option Largest → ℕ → Class → Option Largest
 larger l j (Class.Winning n) = larger_number l j n
 larger l j (Class.Pending n) = l
 larger l j Class.Losing = l

@@ -1,36 +1,21 @@
 // The contents of a bundle, judged before any entry is read.
-ghost use Rattle.std.specs.Prelude.{◌≡◌, true, ◌+◌, ◌*◌, ◌≤◌, ◌<◌, eqb, length, get_or};
-ghost use Rattle.rules.specs.Form.{word};
+ghost use Rattle.std.specs.Prelude.{◌≡◌, ◌+◌, ◌*◌, ◌≤◌, ◌<◌, eqb, length};
 ghost use Rattle.totals.specs.Bundle.{double, entries, offset, size, contents_size, entries_counted, in_order, contents_fit};
+
+use rules::bytes::word_at;
 
 // The most entries that a bundle has, and the longest contents.
 pub const MOST: usize = 64;
 
 pub const CONTENTS_ROOM: usize = 514;
 
-fn byte_at(b: &[u8], at: usize) -> u64
-    requires { at < length b.now }
-    ensures value { result ≡ get_or b.now at 0 }
-    ensures upper_bound { result < 256 }
-{
-    b[at] as u64
-}
-
-// The number of two bytes at a place, low byte first; and of four.
-fn word_at(b: &[u8], at: usize) -> u64
-    requires { at + 2 ≤ length b.now }
-    ensures value { result ≡ word b.now at }
-    ensures upper_bound { result < 65536 }
-{
-    byte_at(b, at) + 256 * byte_at(b, at + 1)
-}
-
+// The number of four bytes at a place, low byte first.
 fn double_at(b: &[u8], at: usize) -> u64
     requires { at + 4 ≤ length b.now }
     ensures value { result ≡ double b.now at }
     ensures upper_bound { result < 4294967296 }
 {
-    word_at(b, at) + 65536 * word_at(b, at + 2)
+    u64::from(word_at(b, at)) + 65536 * u64::from(word_at(b, at + 2))
 }
 
 // The length of entry i.
@@ -60,13 +45,11 @@ fn follow_one_another(contents: &[u8], n: usize) -> bool
     ensures { result ≡ in_order contents.now }
 {
     let mut at = (2 + 8 * n) as u64;
-    let mut i: usize = 0;
-    while i < n {
+    for i in 0..n {
         if !begins(contents, i, at) {
             return false;
         }
         at += size_of(contents, i);
-        i += 1;
     }
     true
 }
@@ -79,11 +62,8 @@ pub fn entries_counted(first: &[u8]) -> usize
     if first.len() < 2 {
         return 0;
     }
-    let n = word_at(first, 0) as usize;
-    if MOST < n {
-        return 0;
-    }
-    n
+    let n = usize::from(word_at(first, 0));
+    if MOST < n { 0 } else { n }
 }
 
 // Whether these bytes, the whole of them, are the contents of a good bundle.
@@ -91,11 +71,5 @@ pub fn contents_fit(contents: &[u8]) -> bool
     ensures { result ≡ contents_fit contents.now }
 {
     let n = entries_counted(contents);
-    if n == 0 {
-        return false;
-    }
-    if contents.len() != 2 + 8 * n {
-        return false;
-    }
-    follow_one_another(contents, n)
+    n != 0 && contents.len() == 2 + 8 * n && follow_one_another(contents, n)
 }

@@ -1,11 +1,9 @@
 // Which class an entry of a bundle falls in: the first number that refuses it, or the value and the number of its starting place.
-ghost use Rattle.std.specs.Prelude.{◌≡◌, ◌≤◌, min, length};
-ghost use Rattle.job.specs.Layout.{Fit};
-ghost use Rattle.totals.specs.Classes.{entry_room, line, winning_number, pending_number, refused_line, started_class, Falls, FallsAs};
+ghost use Rattle.std.specs.Prelude.{◌≡◌, ◌≤◌, min, length, MatchResult};
+ghost use Rattle.totals.specs.Classes.{entry_room, line, winning_number, pending_number, refused_line, started_class, Falls, RefusedFor, FallsAs};
 
 use game::entry::Entry;
-use job::layout::{Layout, Reading};
-use rules::answer::Planned;
+use rules::answer::{Refusal, Value};
 
 // How much of an entry is taken in: more than the longest job, so that a longer entry is refused.
 pub const ENTRY_ROOM: usize = 49152;
@@ -13,7 +11,7 @@ pub const ENTRY_ROOM: usize = 49152;
 // The longest plan.
 const PLAN_ROOM: usize = 4 * sets::places::ROOM;
 
-#[derive(Clone, Copy)]
+#[derive(Clone, Copy, Debug, PartialEq, Eq)]
 pub enum Class {
     Winning(u16),
     Pending(u16),
@@ -25,13 +23,11 @@ pub enum Class {
 fn line_refused(number: u32) -> usize
     ensures { result ≡ refused_line number }
 {
-    if number <= 6 {
-        return number as usize + 2;
+    match number {
+        0..=6 => number as usize + 2,
+        12 => 9,
+        _ => 10,
     }
-    if number == 12 {
-        return 9;
-    }
-    10
 }
 
 impl Class {
@@ -53,10 +49,8 @@ impl Class {
         ensures upper_bound { result ≤ 65535 }
     {
         match self {
-            Class::Winning(number) => number as u32,
-            Class::Pending(_) => 0,
-            Class::Losing => 0,
-            Class::Refused(_) => 0,
+            Class::Winning(number) => u32::from(number),
+            _ => 0,
         }
     }
 
@@ -66,10 +60,8 @@ impl Class {
         ensures upper_bound { result ≤ 65535 }
     {
         match self {
-            Class::Winning(_) => 0,
-            Class::Pending(number) => number as u32,
-            Class::Losing => 0,
-            Class::Refused(_) => 0,
+            Class::Pending(number) => u32::from(number),
+            _ => 0,
         }
     }
 }
@@ -78,41 +70,24 @@ impl Class {
 fn class_started(e: Entry) -> Class
     ensures { result ≡ started_class e }
 {
-    if e.value == 0 {
-        return Class::Losing;
-    }
-    if e.value == 1 {
-        return Class::Pending(e.number);
-    }
-    Class::Winning(e.number)
-}
-
-// The class of a job that was read: it is planned.
-fn class_read(job: &[u8], l: Layout) -> Class
-    requires fit { Fit job.now l }
-    requires job_len_bound { length job.now ≤ entry_room }
-    ensures { Falls job.now result }
-{
-    let mut own = [0u8; PLAN_ROOM];
-    match labelling::plan::plan(job, &mut own) {
-        Planned::Refused(why) => Class::Refused(why.number()),
-        Planned::Done => {
-            let at = job::ask::place_entered(job, l, l.first_goal, l.first);
-            let e = rules::entry::read_entry(&own, at.entry_number(l.goals as u16));
-            class_started(e)
-        }
+    match Value::try_from(e.value) {
+        Ok(Value::Losing) => Class::Losing,
+        Ok(Value::Pending) => Class::Pending(e.number),
+        _ => Class::Winning(e.number),
     }
 }
 
-// The class of a job.
-fn class_short(job: &[u8]) -> Class
+// The class of a job that is read and planned, or why it is refused.
+fn class_read(job: &[u8]) -> Result<Class, Refusal>
     requires { length job.now ≤ entry_room }
-    ensures { Falls job.now result }
+    ensures { MatchResult result (Falls job.now) (RefusedFor job.now) }
 {
-    match job::accept::read(job) {
-        Reading::Refused(why) => Class::Refused(why.number()),
-        Reading::Job(l) => class_read(job, l),
-    }
+    let l = job::accept::read(job)?;
+    let mut own = [0u8; PLAN_ROOM];
+    labelling::plan::plan(job, &mut own)?;
+    let at = job::ask::place_entered(job, l, l.first_goal, l.first);
+    let e = rules::entry::read_entry(&own, at.entry_number(l.goals as u16));
+    Ok(class_started(e))
 }
 
 // The class of an entry of this length, from its first bytes, as many as there is room for: of a longer one the bytes do not count.
@@ -121,7 +96,10 @@ pub fn class_of(first: &[u8], size: u64) -> Class
     ensures { FallsAs first.now size result }
 {
     if (ENTRY_ROOM as u64) < size {
-        return Class::Refused(2);
+        return Class::Refused(Refusal::Contents.number());
     }
-    class_short(first)
+    match class_read(first) {
+        Ok(class) => class,
+        Err(why) => Class::Refused(why.number()),
+    }
 }

@@ -5,21 +5,21 @@ ghost use Rattle.totals.specs.Reported.{Gathered};
 
 use crate::class::Class;
 
-// The largest winning starting number and the first job that has it, counted from 0 over all jobs; or that none wins.
-#[derive(Clone, Copy)]
-pub enum Largest {
-    Nothing,
-    Number { number: u16, job: u32 },
+// The largest winning starting number and the first job that has it, counted from 0 over all jobs.
+#[derive(Clone, Copy, Debug, PartialEq, Eq)]
+pub struct Largest {
+    pub number: u16,
+    pub job: u32,
 }
 
-// How many jobs there are; how many in each class, in the order of the report's lines; the sums; the largest.
-#[derive(Clone, Copy)]
+// How many jobs there are; how many in each class, in the order of the report's lines; the sums; the largest, or that none wins.
+#[derive(Clone, Copy, Debug, PartialEq, Eq)]
 pub struct Totals {
     pub jobs: u32,
     pub counts: [u32; 11],
     pub winning_sum: u32,
     pub pending_sum: u32,
-    pub largest: Largest,
+    pub largest: Option<Largest>,
 }
 
 // The totals of no job.
@@ -31,33 +31,26 @@ pub fn none() -> Totals
         counts: [0; 11],
         winning_sum: 0,
         pending_sum: 0,
-        largest: Largest::Nothing,
+        largest: None,
     }
 }
 
 // The larger of the largest so far and the number of a winning job; of two that are the same, the first.
-fn larger_number(so_far: Largest, job: u32, n: u16) -> Largest
-    ensures { result ≡ larger_number so_far job n }
+fn larger_number(so_far: Option<Largest>, job: u32, number: u16) -> Option<Largest>
+    ensures { result ≡ larger_number so_far job number }
 {
     match so_far {
-        Largest::Nothing => Largest::Number { number: n, job },
-        Largest::Number { number, job: first } => {
-            if number < n {
-                return Largest::Number { number: n, job };
-            }
-            Largest::Number { number, job: first }
-        }
+        Some(largest) if number <= largest.number => so_far,
+        _ => Some(Largest { number, job }),
     }
 }
 
-fn larger_of(so_far: Largest, job: u32, c: Class) -> Largest
+fn larger_of(so_far: Option<Largest>, job: u32, c: Class) -> Option<Largest>
     ensures { result ≡ larger so_far job c }
 {
     match c {
-        Class::Winning(n) => larger_number(so_far, job, n),
-        Class::Pending(_) => so_far,
-        Class::Losing => so_far,
-        Class::Refused(_) => so_far,
+        Class::Winning(number) => larger_number(so_far, job, number),
+        _ => so_far,
     }
 }
 
@@ -68,14 +61,12 @@ pub fn add(t: Totals, c: Class) -> Totals
 {
     let line = c.line();
     let mut counts = t.counts;
-    counts[line] = counts[line] + 1;
-    let so_far = t.largest;
-    let largest = larger_of(so_far, t.jobs, c);
+    counts[line] += 1;
     Totals {
         jobs: t.jobs + 1,
         counts,
         winning_sum: t.winning_sum + c.winning_number(),
         pending_sum: t.pending_sum + c.pending_number(),
-        largest,
+        largest: larger_of(t.largest, t.jobs, c),
     }
 }

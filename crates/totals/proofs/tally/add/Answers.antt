@@ -16,9 +16,6 @@ pub overflow_add-counts : goal.overflow_add-counts
 overflow_add-counts c =
     omega (arith, few_counted c.requires c.line-line.result (omega (arith, c.line-line.ensures, line_below c.args.c)))
 
-pub offset_bounds-counts-line-2 : goal.offset_bounds-counts-line-2
-offset_bounds-counts-line-2 c = omega (arith, c.line-line.ensures, line_below c.args.c)
-
 pub bounds-counts-line-2 : goal.bounds-counts-line-2
 bounds-counts-line-2 c = omega (arith, c.line-line.ensures, line_below c.args.c)
 
@@ -34,7 +31,7 @@ returns c =
     let line = c.line-line.ensures in
     let wins = c.winning_number.ensures.value in
     let hopes = c.pending_number.ensures.value in
-    let most = c.larger_of-largest.ensures in
+    let most = c.larger_of.ensures in
     λ i. record {
       jobs = t.jobs + 1;
       counts = set t.counts (line i) (get_or t.counts (line i) 0 + 1);
