@@ -1,5 +1,5 @@
 -- The laws that belong to no one function.
 pub mod Wording
-pub mod Naming
+pub mod Tabling
 pub mod Adding
 pub mod Saying

@@ -1,16 +1,15 @@
 -- The laws of what lines say: sets that gain what words and lines say, one after the other.
 use Prim.Native.Nat.{ℕ, ◌+◌, ◌*◌, ◌≤◌, ◌<◌}
 use mathlib.Core.Bool.{Bool, true, false, ◌||◌}
-use mathlib.Core.List.{List}
+use mathlib.Core.List.{List, [], ◌∷◌}
 use mathlib.Core.Path.{◌≡◌, refl, sym, ap, ◌∙◌}
 use borrow.Author.Tests.{lt-ltb, le-ltb}
 use lib.Dec.{eqb}
-use lib.ListN.{length, drop}
-use Rattle.lines.specs.Words.{part, same_word, words, lines, lines_from, NextWord, NextLine}
+use lib.ListN.{length}
+use Rattle.lines.specs.Words.{same_word}
 use Rattle.lines.specs.Names.{index_of}
 use Rattle.lines.specs.Numbers.{has, Gains}
 use Rattle.lines.specs.Says.{some_of, adds, names_some, says_after, says_action, says_move, says_fact, arrow, is, row}
-use Rattle.lines.proofs.Wording.{after_none, after_some, words_past, no_lines_from, lines_first}
 
 -- ---- a set on the way
 
@@ -48,99 +47,83 @@ gains_same {before} g e h = record { as_long = h.as_long; members = λ j. h.memb
 
 -- ---- words
 
-module _ (names : List (List ℕ)) (base : ℕ) {t : List ℕ} {i s e : ℕ} (n : NextWord t i s e) where
-  pub none_named : s ≡ e → (j : ℕ) → names_some names base j (words (drop i t)) ≡ false
+-- the list of words is empty
+module _ {l : List (List ℕ)} (e : l ≡ []) where
+  pub none_named : (names : List (List ℕ)) (base j : ℕ) → names_some names base j l ≡ false
   unfolding some_of
-  none_named q j = rw (after_none n q)
+  none_named names base j = rw e
 
-  split : (s ≡ e → ⊥) → (j : ℕ) → names_some names base j (words (drop i t)) ≡ (adds names base j (part t s e) || names_some names base j (words (drop e t)))
-  unfolding some_of
-  split q j = rw (after_some n q)
+  pub after_nothing : (key : List ℕ) (names : List (List ℕ)) (base j : ℕ) → says_after key names base j l ≡ false
+  unfolding says_after
+  after_nothing key names base j = rw e
 
-  pub one_named : (x : ℕ) → (s ≡ e → ⊥) → x ≡ index_of names (part t s e) → x < length names → (j : ℕ)
-      → names_some names base j (words (drop i t)) ≡ (eqb j (base + x) || names_some names base j (words (drop e t)))
-  one_named x q z h j = split q j ∙ rw (← z, lt-ltb x (length names) h)
+  pub action_nothing : (states actions : List (List ℕ)) (i j : ℕ) → says_action states actions i j l ≡ false
+  unfolding says_action
+  action_nothing states actions i j = rw e
 
-  pub other_named : (x : ℕ) → (s ≡ e → ⊥) → x ≡ index_of names (part t s e) → length names ≤ x → (j : ℕ)
-      → names_some names base j (words (drop i t)) ≡ names_some names base j (words (drop e t))
-  other_named x q z h j = split q j ∙ rw (← z, le-ltb x (length names) h)
+  pub move_nothing : (states actions : List (List ℕ)) (j : ℕ) → says_move states actions j l ≡ false
+  unfolding says_move
+  move_nothing states actions j = rw e
 
-pub named_past : (names : List (List ℕ)) (base : ℕ) (t : List ℕ) (i : ℕ) → length t ≤ i → (j : ℕ) → names_some names base j (words (drop i t)) ≡ false
-unfolding some_of
-named_past names base t i h j = rw (words_past t i h)
+  pub fact_nothing : (states facts : List (List ℕ)) (shift j : ℕ) → says_fact states facts shift j l ≡ false
+  unfolding says_fact
+  fact_nothing states facts shift j = rw e
 
--- ---- what follows a key, an action, a state
+-- it begins with a word
+module _ {l ws : List (List ℕ)} {w : List ℕ} (e : l ≡ w ∷ ws) where
+  module _ (names : List (List ℕ)) (base : ℕ) where
+    pub one_named : (x : ℕ) → x ≡ index_of names w → x < length names → (j : ℕ) → names_some names base j l ≡ (eqb j (base + x) || names_some names base j ws)
+    unfolding some_of
+    one_named x z h j = rw (e, ← z, lt-ltb x (length names) h)
 
-module _ {t : List ℕ} {at s e : ℕ} (n : NextWord t at s e) where
+    pub other_named : (x : ℕ) → x ≡ index_of names w → length names ≤ x → (j : ℕ) → names_some names base j l ≡ names_some names base j ws
+    unfolding some_of
+    other_named x z h j = rw (e, ← z, le-ltb x (length names) h)
+
   module _ (key : List ℕ) (names : List (List ℕ)) (base : ℕ) where
-    pub after_nothing : s ≡ e → (j : ℕ) → says_after key names base j (words (drop at t)) ≡ false
+    pub after_other : same_word w key ≡ false → (j : ℕ) → says_after key names base j l ≡ false
     unfolding says_after
-    after_nothing q j = rw (after_none n q)
+    after_other z j = rw (e, says_after, z)
 
-    pub after_other : (s ≡ e → ⊥) → same_word (part t s e) key ≡ false → (j : ℕ) → says_after key names base j (words (drop at t)) ≡ false
+    pub after_key_word : same_word w key ≡ true → (j : ℕ) → says_after key names base j l ≡ names_some names base j ws
     unfolding says_after
-    after_other q z j = rw (after_some n q, says_after, z)
-
-    pub after_key_word : (s ≡ e → ⊥) → same_word (part t s e) key ≡ true → (j : ℕ)
-        → says_after key names base j (words (drop at t)) ≡ names_some names base j (words (drop e t))
-    unfolding says_after
-    after_key_word q z j = rw (after_some n q, says_after, z)
+    after_key_word z j = rw (e, says_after, z)
 
   module _ (states actions : List (List ℕ)) where
-    pub action_nothing : (i : ℕ) → s ≡ e → (j : ℕ) → says_action states actions i j (words (drop at t)) ≡ false
+    pub action_other : (i k : ℕ) → k ≡ index_of actions w → length actions ≤ k → (j : ℕ) → says_action states actions i j l ≡ false
     unfolding says_action
-    action_nothing i q j = rw (after_none n q)
+    action_other i k z h j = rw (e, says_action, ← z, le-ltb k (length actions) h)
 
-    pub action_other : (i k : ℕ) → (s ≡ e → ⊥) → k ≡ index_of actions (part t s e) → length actions ≤ k → (j : ℕ)
-        → says_action states actions i j (words (drop at t)) ≡ false
+    pub action_known : (i k : ℕ) → k ≡ index_of actions w → k < length actions → (j : ℕ)
+        → says_action states actions i j l ≡ says_after arrow states (row i k) j ws
     unfolding says_action
-    action_other i k q z h j = rw (after_some n q, says_action, ← z, le-ltb k (length actions) h)
+    action_known i k z h j = rw (e, says_action, ← z, lt-ltb k (length actions) h)
 
-    pub action_known : (i k : ℕ) → (s ≡ e → ⊥) → k ≡ index_of actions (part t s e) → k < length actions → (j : ℕ)
-        → says_action states actions i j (words (drop at t)) ≡ says_after arrow states (row i k) j (words (drop e t))
-    unfolding says_action
-    action_known i k q z h j = rw (after_some n q, says_action, ← z, lt-ltb k (length actions) h)
-
-    pub move_nothing : s ≡ e → (j : ℕ) → says_move states actions j (words (drop at t)) ≡ false
+    pub move_other : (i : ℕ) → i ≡ index_of states w → length states ≤ i → (j : ℕ) → says_move states actions j l ≡ false
     unfolding says_move
-    move_nothing q j = rw (after_none n q)
+    move_other i z h j = rw (e, says_move, ← z, le-ltb i (length states) h)
 
-    pub move_other : (i : ℕ) → (s ≡ e → ⊥) → i ≡ index_of states (part t s e) → length states ≤ i → (j : ℕ)
-        → says_move states actions j (words (drop at t)) ≡ false
+    pub move_known : (i : ℕ) → i ≡ index_of states w → i < length states → (j : ℕ) → says_move states actions j l ≡ says_action states actions i j ws
     unfolding says_move
-    move_other i q z h j = rw (after_some n q, says_move, ← z, le-ltb i (length states) h)
-
-    pub move_known : (i : ℕ) → (s ≡ e → ⊥) → i ≡ index_of states (part t s e) → i < length states → (j : ℕ)
-        → says_move states actions j (words (drop at t)) ≡ says_action states actions i j (words (drop e t))
-    unfolding says_move
-    move_known i q z h j = rw (after_some n q, says_move, ← z, lt-ltb i (length states) h)
+    move_known i z h j = rw (e, says_move, ← z, lt-ltb i (length states) h)
 
   module _ (states facts : List (List ℕ)) (shift : ℕ) where
-    pub fact_nothing : s ≡ e → (j : ℕ) → says_fact states facts shift j (words (drop at t)) ≡ false
+    pub fact_other : (i : ℕ) → i ≡ index_of states w → length states ≤ i → (j : ℕ) → says_fact states facts shift j l ≡ false
     unfolding says_fact
-    fact_nothing q j = rw (after_none n q)
+    fact_other i z h j = rw (e, says_fact, ← z, le-ltb i (length states) h)
 
-    pub fact_other : (i : ℕ) → (s ≡ e → ⊥) → i ≡ index_of states (part t s e) → length states ≤ i → (j : ℕ)
-        → says_fact states facts shift j (words (drop at t)) ≡ false
+    pub fact_known : (i : ℕ) → i ≡ index_of states w → i < length states → (j : ℕ)
+        → says_fact states facts shift j l ≡ says_after is facts (8 * i + shift) j ws
     unfolding says_fact
-    fact_other i q z h j = rw (after_some n q, says_fact, ← z, le-ltb i (length states) h)
-
-    pub fact_known : (i : ℕ) → (s ≡ e → ⊥) → i ≡ index_of states (part t s e) → i < length states → (j : ℕ)
-        → says_fact states facts shift j (words (drop at t)) ≡ says_after is facts (8 * i + shift) j (words (drop e t))
-    unfolding says_fact
-    fact_known i q z h j = rw (after_some n q, says_fact, ← z, lt-ltb i (length states) h)
+    fact_known i z h j = rw (e, says_fact, ← z, lt-ltb i (length states) h)
 
 -- ---- lines
 
 module _ (f : ℕ → List (List ℕ) → Bool) where
-  pub line_said : {t : List ℕ} {at r : ℕ} → NextLine t at r → (j : ℕ)
-      → some_of (f j) (lines_from t at) ≡ (f j (words (drop at t)) || some_of (f j) (lines_from t r))
+  pub line_said : {ls rest : List (List (List ℕ))} {l : List (List ℕ)} → ls ≡ l ∷ rest → (j : ℕ) → some_of (f j) ls ≡ (f j l || some_of (f j) rest)
   unfolding some_of
-  line_said m j = rw m.said
+  line_said e j = rw e
 
-  pub lines_said : (t : List ℕ) (j : ℕ) → some_of (f j) (lines t) ≡ some_of (f j) (lines_from t 0)
-  lines_said t j = ap (some_of (f j)) (sym (lines_first t))
-
-  pub no_lines : (t : List ℕ) (at : ℕ) → length t < at → (j : ℕ) → some_of (f j) (lines_from t at) ≡ false
+  pub no_lines : {ls : List (List (List ℕ))} → ls ≡ [] → (j : ℕ) → some_of (f j) ls ≡ false
   unfolding some_of
-  no_lines t at h j = rw (no_lines_from t at h)
+  no_lines e j = rw e

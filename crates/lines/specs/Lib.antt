@@ -3,3 +3,5 @@ pub mod Words
 pub mod Names
 pub mod Numbers
 pub mod Says
+pub mod Steps
+pub mod Tables

@@ -1,107 +1,130 @@
-// Tables of names: two numbers a name, its first byte in a text and where it ends.
-ghost use Rattle.std.specs.Prelude.{◌≡◌, ◌/◌, ◌≤◌, ◌<◌, length, drop, IfSome};
-ghost use Rattle.lines.specs.Words.{words, part, same_word};
-ghost use Rattle.lines.specs.Names.{Lie, Holds, table, push, pushes, after_key, names, index_of, found, name};
+// Names where they stand in a text, and a list with room for some of them.
+ghost use Rattle.std.specs.Prelude.{◌≡◌, ◌≤◌, ◌<◌, length, take, get_or, [], IfSome};
+ghost use Rattle.std.specs.List.{All};
 
-use crate::word::{is_same, next_line, next_word};
+use crate::line::{Lines, Word, Words};
+use crate::word::is_same;
 
-// Whether the name k of a table is spelt like the word.
-fn is_name(text: &[u8], spans: &[usize], n: usize, k: usize, word: &[u8]) -> bool
-    requires lie { Lie text.now spans.now n }
-    requires k_lt_n { k < n }
-    ensures { result ≡ same_word (name text.now spans.now k) word.now }
-{
-    let start = spans[2 * k];
-    let end = spans[2 * k + 1];
-    is_same(&text[start..end], word)
+// Where a name stands: from its first byte in a text to where it ends.
+#[derive(Clone, Copy, Debug, PartialEq, Eq)]
+pub struct Span {
+    pub start: usize,
+    pub end: usize,
 }
 
-// The number of the first name of a table that is spelt like the word.
-pub fn find(text: &[u8], spans: &[usize], n: usize, word: &[u8]) -> Option<usize>
-    requires { Lie text.now spans.now n }
-    ensures index { found result n ≡ index_of (table text.now spans.now n) word.now }
-    ensures within { IfSome result (λ k. k < n) }
-{
-    for k in 0..n {
-        if is_name(text, spans, n, k, word) {
-            return Some(k);
+// Names where they stand in a text.
+#[derive(Clone, Copy, Debug)]
+pub struct Names<'a> {
+    pub text: &'a [u8],
+    pub spans: &'a [Span],
+    ghost inside: { All (λ s. (s.start ≤ s.end) × (s.end ≤ length text.now)) spans.now },
+}
+
+// A list of names of a text, with room for N.
+#[derive(Clone, Copy, Debug)]
+pub struct List<'a, const N: usize> {
+    pub text: &'a [u8],
+    pub spans: [Span; N],
+    pub len: usize,
+    ghost few: { len ≤ N },
+    ghost inside: { All (λ s. (s.start ≤ s.end) × (s.end ≤ length text.now)) (take len spans) },
+}
+
+impl<'a> Names<'a> {
+    ghost use Rattle.lines.specs.Tables.{names_of, count_of};
+    ghost use Rattle.lines.specs.Names.{index_of, found};
+
+    // How many names there are.
+    pub fn len(self) -> usize
+        ensures { result ≡ count_of self.entry }
+    {
+        self.spans.len()
+    }
+
+    // The name k.
+    pub fn get(self, k: usize) -> &'a [u8]
+        requires { k < count_of self }
+        ensures { result.now ≡ get_or (names_of self.entry) k [] }
+    {
+        let s = self.spans[k];
+        &self.text[s.start..s.end]
+    }
+
+    // The number of the first name that is spelt like the word, if there is one.
+    pub fn find(self, word: &[u8]) -> Option<usize>
+        ensures index { found result (count_of self.entry) ≡ index_of (names_of self.entry) word.now }
+        ensures within { IfSome result (λ k. k < count_of self.entry) }
+    {
+        for k in 0..self.spans.len() {
+            if is_same(self.get(k), word) {
+                return Some(k);
+            }
+        }
+        None
+    }
+}
+
+impl<'a, const N: usize> List<'a, N> {
+    ghost use Rattle.lines.specs.Tables.{names_of, names_in, count_of};
+    ghost use Rattle.lines.specs.Names.{after_key, names, push, pushes};
+    ghost use Rattle.lines.specs.Steps.{bytes_of, words_left};
+
+    // The names that a text lists after a key, as many as there is room for.
+    pub fn of(text: &'a [u8], key: &[u8]) -> List<'a, N>
+        ensures { (result.text.now ≡ text.entry.now) × (names_in result ≡ names N key.now text.entry.now) }
+    {
+        let mut list = List {
+            text,
+            spans: [Span { start: 0, end: 0 }; N],
+            len: 0,
+        };
+        for line in Lines::of(text) {
+            list.put_line(line, key);
+        }
+        list
+    }
+
+    // The names of the list.
+    pub fn names(&self) -> Names<'_>
+        ensures { (result.text.now ≡ self.now.text.now) × (names_of result ≡ names_in self.now) × (count_of result ≤ N) }
+    {
+        Names {
+            text: self.text,
+            spans: &self.spans[..self.len],
         }
     }
-    None
-}
 
-// Puts a name to a table, where it has room for one more.
-fn put(spans: &mut [usize], n: usize, text: &[u8], start: usize, end: usize) -> usize
-    requires lie { Lie text.now spans.old n }
-    requires start_le_end { (start ≤ end) × (end ≤ length text.now) }
-    ensures { Holds text.now spans.old spans.new result
-        (push (length spans.old / 2) (table text.now spans.old n) (part text.now start end)) }
-{
-    if spans.len() / 2 <= n {
-        return n;
-    }
-    spans[2 * n] = start;
-    spans[2 * n + 1] = end;
-    n + 1
-}
-
-// Puts the words of a line to a table, from a position on.
-fn put_words(spans: &mut [usize], n: usize, text: &[u8], at: usize) -> usize
-    requires lie { Lie text.now spans.old n }
-    requires at_in_bounds { at ≤ length text.now }
-    ensures { Holds text.now spans.old spans.new result
-        (pushes (length spans.old / 2) (table text.now spans.old n) (words (drop at text.now))) }
-{
-    let mut k = n;
-    let mut i = at;
-    while i < text.len() {
-        let w = next_word(text, i);
-        let end = w.end;
-        if w.start == end {
-            return k;
+    // Puts a word to the list, where it has room for one more.
+    fn put(&mut self, w: Word<'_>)
+        requires { w.text.now ≡ self.old.text.now }
+        ensures { (self.new.text.now ≡ self.old.text.now) × (names_in self.new ≡ push N (names_in self.old) (bytes_of w.entry)) }
+    {
+        if self.len < N {
+            self.spans[self.len] = Span {
+                start: w.start,
+                end: w.end,
+            };
+            self.len += 1;
         }
-        k = put(spans, k, text, w.start, end);
-        i = end;
     }
-    k
-}
 
-// Puts the names of a line to a table, if it lists them after the key.
-fn put_line(spans: &mut [usize], n: usize, text: &[u8], at: usize, key: &[u8]) -> usize
-    requires lie { Lie text.now spans.old n }
-    requires at_in_bounds { at ≤ length text.now }
-    ensures { Holds text.now spans.old spans.new result
-        (pushes (length spans.old / 2) (table text.now spans.old n)
-        (after_key key.now (words (drop at text.now)))) }
-{
-    let k = next_word(text, at);
-    let start = k.start;
-    let end = k.end;
-    if start == end {
-        return n;
+    // Puts the words of a line to the list.
+    fn put_words(&mut self, line: Words<'_>)
+        requires { line.text.now ≡ self.old.text.now }
+        ensures { (self.new.text.now ≡ self.old.text.now) × (names_in self.new ≡ pushes N (names_in self.old) (words_left line.entry)) }
+    {
+        for w in line {
+            self.put(w);
+        }
     }
-    let c = next_word(text, end);
-    let from = c.start;
-    let to = c.end;
-    if from == to {
-        return n;
-    }
-    if !is_same(&text[start..end], key) || !is_same(&text[from..to], b":") {
-        return n;
-    }
-    put_words(spans, n, text, to)
-}
 
-// Lists the names of a text after a key in a table, as many as it has room for, and answers how many these are.
-pub fn list(spans: &mut [usize], text: &[u8], key: &[u8]) -> usize
-    ensures { Holds text.now spans.old spans.new result
-        (names (length spans.old / 2) key.now text.now) }
-{
-    let mut n: usize = 0;
-    let mut at: usize = 0;
-    while at <= text.len() {
-        n = put_line(spans, n, text, at, key);
-        at = next_line(text, at);
+    // Puts the names of a line to the list, if it lists them after the key.
+    fn put_line(&mut self, line: Words<'_>, key: &[u8])
+        requires { line.text.now ≡ self.old.text.now }
+        ensures { (self.new.text.now ≡ self.old.text.now) × (names_in self.new ≡ pushes N (names_in self.old) (after_key key.now (words_left line.entry))) }
+    {
+        if let Some(names) = line.after_key(key) {
+            self.put_words(names);
+        }
     }
-    n
 }

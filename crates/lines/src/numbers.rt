@@ -1,7 +1,12 @@
-// A set of numbers in bytes that are lent: bit i of byte k tells of the number 8·k + i.
-ghost use Rattle.std.specs.Prelude.{◌≡◌, ◌||◌, ℕ, ◌/◌, ◌<◌, eqb, length};
+// A set of numbers in N bytes: bit i of byte k tells of the number 8·k + i.
+ghost use Rattle.std.specs.Prelude.{◌≡◌, ◌||◌, ℕ, ◌/◌, ◌<◌, eqb};
 ghost use Rattle.sets.specs.Sets.{bit};
 ghost use Rattle.lines.specs.Numbers.{has, Gains};
+
+// The numbers below 8·N, each in the set or not. It may be half a megabyte, so it is lent and never copied.
+pub struct Bits<const N: usize> {
+    pub bytes: [u8; N],
+}
 
 // The byte with bit i set.
 fn with(byte: u8, i: u8) -> u8
@@ -11,19 +16,21 @@ fn with(byte: u8, i: u8) -> u8
     (1 << i) | byte
 }
 
-// Puts a number into the set.
-pub fn add(set: &mut [u8], m: usize)
-    requires { m / 8 < length set.old }
-    ensures { Gains set.old set.new (λ j. eqb j m) }
-{
-    let at = m / 8;
-    set[at] = with(set[at], (m % 8) as u8);
-}
+impl<const N: usize> Bits<N> {
+    // Puts a number into the set.
+    pub fn insert(&mut self, m: usize)
+        requires { m / 8 < N }
+        ensures { Gains self.old.bytes self.new.bytes (λ j. eqb j m) }
+    {
+        let at = m / 8;
+        self.bytes[at] = with(self.bytes[at], (m % 8) as u8);
+    }
 
-// Whether the set has a number.
-pub fn has(set: &[u8], m: usize) -> bool
-    requires { m / 8 < length set.now }
-    ensures { result ≡ has set.now m }
-{
-    sets::label::has_proposition(set[m / 8], (m % 8) as u8)
+    // Whether the set has a number.
+    pub fn contains(&self, m: usize) -> bool
+        requires { m / 8 < N }
+        ensures { result ≡ has self.now.bytes m }
+    {
+        sets::label::has_proposition(self.bytes[m / 8], (m % 8) as u8)
+    }
 }

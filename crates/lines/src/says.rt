@@ -1,194 +1,108 @@
 // What the lines of a text say of moves and of facts, gathered in sets of numbers.
-ghost use Rattle.std.specs.Prelude.{◌≡◌, ◌+◌, ◌*◌, ◌≤◌, ◌<◌, length, drop};
-ghost use Rattle.lines.specs.Words.{words, lines};
-ghost use Rattle.lines.specs.Names.{Lie, table};
+ghost use Rattle.std.specs.Prelude.{◌≡◌, ◌+◌, ◌*◌, ◌≤◌, ◌<◌};
+ghost use Rattle.lines.specs.Words.{lines};
+ghost use Rattle.lines.specs.Tables.{names_of, count_of};
+ghost use Rattle.lines.specs.Steps.{words_left};
 ghost use Rattle.lines.specs.Numbers.{Gains};
 ghost use Rattle.lines.specs.Says.{some_of, names_some, says_after, says_action, says_move, says_fact};
 
-use crate::names::find;
-use crate::word::{is_same, next_line, next_word};
+use crate::line::{Lines, Words};
+use crate::names::Names;
+use crate::numbers::Bits;
 
-// Puts base + x into the set for each word of the line, from a position on, that is name x of the table.
-fn add_words(
-    set: &mut [u8],
-    text: &[u8],
-    at: usize,
-    named: &[u8],
-    spans: &[usize],
-    n: usize,
-    base: usize,
-)
-    requires at_in_bounds { at ≤ length text.now }
-    requires lie { Lie named.now spans.now n }
-    requires n_bound { (base + n ≤ 8 * length set.old) × (length set.old ≤ 524288) }
-    ensures { Gains set.old set.new
-        (λ j. names_some (table named.now spans.now n) base j (words (drop at text.now))) }
+// For each state, action and outcome whether a text says it, and for each state its facts.
+pub type Moves = Bits<524288>;
+
+pub type Facts = Bits<512>;
+
+// Puts base + x into the set for each word of the line that is name x.
+fn add_words<const N: usize>(set: &mut Bits<N>, line: Words<'_>, names: Names<'_>, base: usize)
+    requires { (base + count_of names ≤ 8 * N) × (N ≤ 524288) }
+    ensures { Gains set.old.bytes set.new.bytes (λ j. names_some (names_of names.entry) base j (words_left line.entry)) }
 {
-    let mut i = at;
-    while i < text.len() {
-        let w = next_word(text, i);
-        let start = w.start;
-        let end = w.end;
-        if start == end {
-            return;
+    for w in line {
+        if let Some(x) = names.find(w.bytes()) {
+            set.insert(base + x);
         }
-        if let Some(x) = find(named, spans, n, &text[start..end]) {
-            crate::numbers::add(set, base + x);
-        }
-        i = end;
     }
 }
 
 // The same for the words after a key, if the key comes next.
-fn add_after(
-    set: &mut [u8],
-    text: &[u8],
-    at: usize,
+fn add_after<const N: usize>(
+    set: &mut Bits<N>,
+    mut line: Words<'_>,
     key: &[u8],
-    named: &[u8],
-    spans: &[usize],
-    n: usize,
+    names: Names<'_>,
     base: usize,
 )
-    requires at_in_bounds { at ≤ length text.now }
-    requires lie { Lie named.now spans.now n }
-    requires n_bound { (base + n ≤ 8 * length set.old) × (length set.old ≤ 524288) }
-    ensures { Gains set.old set.new
-        (λ j. says_after key.now (table named.now spans.now n) base j (words (drop at text.now))) }
+    requires { (base + count_of names ≤ 8 * N) × (N ≤ 524288) }
+    ensures { Gains set.old.bytes set.new.bytes (λ j. says_after key.now (names_of names.entry) base j (words_left line.entry)) }
 {
-    let w = next_word(text, at);
-    let start = w.start;
-    let end = w.end;
-    if start == end {
-        return;
-    }
-    if is_same(&text[start..end], key) {
-        add_words(set, text, end, named, spans, n, base);
+    if let Some(w) = line.next() {
+        if w.is(key) {
+            add_words(set, line, names, base);
+        }
     }
 }
 
 // Puts the moves of state i that the rest of a line says into the set.
-fn add_action(
-    set: &mut [u8],
-    text: &[u8],
-    at: usize,
-    states: &[usize],
-    s: usize,
-    actions: &[usize],
-    a: usize,
-    i: usize,
-)
-    requires at_in_bounds { at ≤ length text.now }
-    requires lie { (Lie text.now states.now s) × (Lie text.now actions.now a) }
-    requires i_bound { (i < 512) × (s ≤ 512) × (a ≤ 16) × (length set.old ≡ 524288) }
-    ensures { Gains set.old set.new
-        (λ j. says_action (table text.now states.now s) (table text.now actions.now a) i j
-        (words (drop at text.now))) }
+fn add_action(set: &mut Moves, mut line: Words<'_>, states: Names<'_>, actions: Names<'_>, i: usize)
+    requires { (i < 512) × (count_of states ≤ 512) × (count_of actions ≤ 16) }
+    ensures { Gains set.old.bytes set.new.bytes (λ j. says_action (names_of states.entry) (names_of actions.entry) i j (words_left line.entry)) }
 {
-    let w = next_word(text, at);
-    let start = w.start;
-    let end = w.end;
-    if start == end {
-        return;
-    }
-    if let Some(k) = find(text, actions, a, &text[start..end]) {
-        add_after(set, text, end, b"->", text, states, s, (i * 16 + k) * 512);
+    if let Some(w) = line.next() {
+        if let Some(k) = actions.find(w.bytes()) {
+            add_after(set, line, b"->", states, (i * 16 + k) * 512);
+        }
     }
 }
 
 // Puts the moves that a line says into the set.
-fn move_line(
-    set: &mut [u8],
-    text: &[u8],
-    at: usize,
-    states: &[usize],
-    s: usize,
-    actions: &[usize],
-    a: usize,
-)
-    requires at_in_bounds { at ≤ length text.now }
-    requires lie { (Lie text.now states.now s) × (Lie text.now actions.now a) }
-    requires s_bound { (s ≤ 512) × (a ≤ 16) × (length set.old ≡ 524288) }
-    ensures { Gains set.old set.new
-        (λ j. says_move (table text.now states.now s) (table text.now actions.now a) j
-        (words (drop at text.now))) }
+fn move_line(set: &mut Moves, mut line: Words<'_>, states: Names<'_>, actions: Names<'_>)
+    requires { (count_of states ≤ 512) × (count_of actions ≤ 16) }
+    ensures { Gains set.old.bytes set.new.bytes (λ j. says_move (names_of states.entry) (names_of actions.entry) j (words_left line.entry)) }
 {
-    let w = next_word(text, at);
-    let start = w.start;
-    let end = w.end;
-    if start == end {
-        return;
-    }
-    if let Some(i) = find(text, states, s, &text[start..end]) {
-        add_action(set, text, end, states, s, actions, a, i);
+    if let Some(w) = line.next() {
+        if let Some(i) = states.find(w.bytes()) {
+            add_action(set, line, states, actions, i);
+        }
     }
 }
 
 // Puts the facts that a line says of a state into the set.
 fn fact_line(
-    set: &mut [u8],
-    text: &[u8],
-    at: usize,
-    states: &[usize],
-    s: usize,
-    named: &[u8],
-    facts: &[usize],
-    f: usize,
+    set: &mut Facts,
+    mut line: Words<'_>,
+    states: Names<'_>,
+    facts: Names<'_>,
     shift: usize,
 )
-    requires at_in_bounds { at ≤ length text.now }
-    requires lie { (Lie text.now states.now s) × (Lie named.now facts.now f) }
-    requires s_bound { (s ≤ 512) × (shift + f ≤ 8) × (length set.old ≡ 512) }
-    ensures { Gains set.old set.new
-        (λ j. says_fact (table text.now states.now s) (table named.now facts.now f) shift j
-        (words (drop at text.now))) }
+    requires { (count_of states ≤ 512) × (shift + count_of facts ≤ 8) }
+    ensures { Gains set.old.bytes set.new.bytes (λ j. says_fact (names_of states.entry) (names_of facts.entry) shift j (words_left line.entry)) }
 {
-    let w = next_word(text, at);
-    let start = w.start;
-    let end = w.end;
-    if start == end {
-        return;
-    }
-    if let Some(i) = find(text, states, s, &text[start..end]) {
-        add_after(set, text, end, b"is", named, facts, f, 8 * i + shift);
+    if let Some(w) = line.next() {
+        if let Some(i) = states.find(w.bytes()) {
+            add_after(set, line, b"is", facts, 8 * i + shift);
+        }
     }
 }
 
 // Puts the moves that the text says into the set.
-pub fn moves(set: &mut [u8], text: &[u8], states: &[usize], s: usize, actions: &[usize], a: usize)
-    requires lie { (Lie text.now states.now s) × (Lie text.now actions.now a) }
-    requires s_bound { (s ≤ 512) × (a ≤ 16) × (length set.old ≡ 524288) }
-    ensures { Gains set.old set.new
-        (λ j. some_of (says_move (table text.now states.now s) (table text.now actions.now a) j)
-        (lines text.now)) }
+pub fn moves(set: &mut Moves, text: &[u8], states: Names<'_>, actions: Names<'_>)
+    requires { (count_of states ≤ 512) × (count_of actions ≤ 16) }
+    ensures { Gains set.old.bytes set.new.bytes (λ j. some_of (says_move (names_of states.entry) (names_of actions.entry) j) (lines text.now)) }
 {
-    let mut at: usize = 0;
-    while at <= text.len() {
-        move_line(set, text, at, states, s, actions, a);
-        at = next_line(text, at);
+    for line in Lines::of(text) {
+        move_line(set, line, states, actions);
     }
 }
 
 // Puts the facts that the text says of states into the set, each for a state s at 8·s + shift and up.
-pub fn facts(
-    set: &mut [u8],
-    text: &[u8],
-    states: &[usize],
-    s: usize,
-    named: &[u8],
-    facts: &[usize],
-    f: usize,
-    shift: usize,
-)
-    requires lie { (Lie text.now states.now s) × (Lie named.now facts.now f) }
-    requires s_bound { (s ≤ 512) × (shift + f ≤ 8) × (length set.old ≡ 512) }
-    ensures { Gains set.old set.new
-        (λ j. some_of (says_fact (table text.now states.now s) (table named.now facts.now f) shift j)
-        (lines text.now)) }
+pub fn facts(set: &mut Facts, text: &[u8], states: Names<'_>, facts: Names<'_>, shift: usize)
+    requires { (count_of states ≤ 512) × (shift + count_of facts ≤ 8) }
+    ensures { Gains set.old.bytes set.new.bytes (λ j. some_of (says_fact (names_of states.entry) (names_of facts.entry) shift j) (lines text.now)) }
 {
-    let mut at: usize = 0;
-    while at <= text.len() {
-        fact_line(set, text, at, states, s, named, facts, f, shift);
-        at = next_line(text, at);
+    for line in Lines::of(text) {
+        fact_line(set, line, states, facts, shift);
     }
 }

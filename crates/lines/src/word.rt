@@ -1,16 +1,11 @@
-// The words of a line, found by their positions, and where the next line begins.
+// The classes of bytes, and where words and lines end.
 ghost use Rattle.std.specs.Prelude.{◌≡◌, ◌+◌, ◌≤◌, length, drop};
 ghost use Rattle.lines.specs.Words.{class, class_number, run, blanks, NextWord, NextLine, same_word};
 
+use crate::names::Span;
+
 // The byte that ends a line.
 const LINE_FEED: u8 = b'\n';
-
-// A word of a text, from its first byte to where it ends; where these are the same there is none.
-#[derive(Clone, Copy, Debug, PartialEq, Eq)]
-pub struct Word {
-    pub start: usize,
-    pub end: usize,
-}
 
 // What a byte is to a line: a blank, where the line's words end, a mark that is a word by itself, or a letter.
 #[derive(Clone, Copy, Debug, PartialEq, Eq)]
@@ -48,24 +43,24 @@ fn class_end(text: &[u8], at: usize, class: Class) -> usize
 }
 
 // The word that begins at a position where no blank is.
-fn word_at(text: &[u8], start: usize) -> Word
+fn word_at(text: &[u8], start: usize) -> Span
     requires start_in_bounds { start ≤ length text.now }
     requires text_value { blanks (drop start text.now) ≡ 0 }
     ensures { NextWord text.now start result.start result.end }
 {
     if text.len() <= start {
-        return Word { start, end: start };
+        return Span { start, end: start };
     }
     let end = match Class::from(text[start]) {
         Class::Letter => class_end(text, start, Class::Letter),
         Class::Mark => start + 1,
         Class::Blank | Class::End => start,
     };
-    Word { start, end }
+    Span { start, end }
 }
 
 // The next word of the line from a position on.
-pub fn next_word(text: &[u8], at: usize) -> Word
+pub fn next_word(text: &[u8], at: usize) -> Span
     requires { at ≤ length text.now }
     ensures { NextWord text.now at result.start result.end }
 {

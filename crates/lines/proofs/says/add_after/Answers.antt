@@ -1,19 +1,14 @@
--- `says::add_after` meets its contract: by the next word.
-use mathlib.Core.Path.{sym, ◌∙◌}
+-- `says::add_after` meets its contract.
+use mathlib.Core.Path.{sym, ap, ◌∙◌}
 use Rattle.lines.proofs.Adding.{gains_none}
 use Rattle.lines.proofs.Saying.{gains_same, after_nothing, after_other, after_key_word}
 use Rattle.lines.proofs.says.add_after.Goals as goal
 
-pub returns-then-start-end : goal.returns-then-start-end
-returns-then-start-end c = gains_none _ _ (after_nothing c.next_word-w.ensures _ _ _ c.if-start-end.true)
+pub returns-then-is : goal.returns-then-is
+returns-then-is g c = gains_same _ (after_key_word c.in-Some.ensures.steps.2 _ _ _ (sym c.is.ensures ∙ c.if-is.true)) c.add_words.ensures
 
-pub returns-then-is_same : goal.returns-then-is_same
-returns-then-is_same c =
-    gains_same _
-    (after_key_word c.next_word-w.ensures _ _ _ c.if-start-end.false (sym c.is_same.ensures ∙ c.if-is_same.true))
-    c.add_words.ensures
+pub returns-else-is : goal.returns-else-is
+returns-else-is g c = gains_none _ _ (after_other c.in-Some.ensures.steps.2 _ _ _ (sym c.is.ensures ∙ c.if-is.false))
 
-pub returns-else-is_same : goal.returns-else-is_same
-returns-else-is_same c =
-    gains_none _ _
-    (after_other c.next_word-w.ensures _ _ _ c.if-start-end.false (sym c.is_same.ensures ∙ c.if-is_same.false))
+pub returns-in_default : goal.returns-in_default
+returns-in_default g c = gains_none _ _ (after_nothing c.in_default.ensures.steps.1 _ _ _)

@@ -1,21 +1,27 @@
--- `says::move_line` meets its contract: by the line's first word.
+-- `says::move_line` meets its contract.
+use mathlib.Core.Path.{sym, ap, ◌∙◌}
 use native.Mathlib.Omega.{arith}
+use Rattle.lines.specs.Names.{index_of}
+use Rattle.lines.specs.Tables.{names_of}
 use Rattle.lines.proofs.Adding.{gains_none}
-use Rattle.lines.proofs.Naming.{table_length}
+use Rattle.lines.proofs.Tabling.{names_counted}
 use Rattle.lines.proofs.Saying.{gains_same, move_nothing, move_other, move_known}
 use Rattle.lines.proofs.says.move_line.Goals as goal
 
-pub returns-then-start-end : goal.returns-then-start-end
-returns-then-start-end c = gains_none _ _ (move_nothing c.next_word-w.ensures _ _ c.if-start-end.true)
-
-pub returns-in-Some : goal.returns-in-Some
-returns-in-Some c =
-    let f = c.in-Some.ensures in
+pub returns-in-Some-find : goal.returns-in-Some-find
+returns-in-Some-find c =
+    let n = c.args.states in
+    let f = c.in-Some-find.ensures in
     gains_same _
-    (move_known c.next_word-w.ensures _ _ _ c.if-start-end.false f.index (rw table_length f.within))
+    (move_known c.in-Some.ensures.steps.2 _ _ _ (f.index ∙ ap (index_of (names_of n)) c.bytes.ensures) (rw (names_counted n) f.within))
     c.add_action.ensures
 
-pub returns-in_default : goal.returns-in_default
-returns-in_default c =
+pub returns-in_default-find : goal.returns-in_default-find
+returns-in_default-find c =
+    let n = c.args.states in
+    let f = c.in_default-find.ensures in
     gains_none _ _
-    (move_other c.next_word-w.ensures _ _ _ c.if-start-end.false c.in_default.ensures.index (rw table_length (omega arith)))
+    (move_other c.in-Some.ensures.steps.2 _ _ _ (names_counted n ∙ f.index ∙ ap (index_of (names_of n)) c.bytes.ensures) (omega arith))
+
+pub returns-in_default : goal.returns-in_default
+returns-in_default c = gains_none _ _ (move_nothing c.in_default.ensures.steps.1 _ _)

@@ -1,16 +1,14 @@
 -- `says::moves` meets its contract: the set has gained what the lines passed say.
-use Prim.Native.Nat.{◌+◌, ◌-◌, ◌≤◌}
-use lib.ListN.{length}
-use Rattle.lines.specs.Words.{lines, lines_from}
-use Rattle.lines.specs.Names.{table}
+use Rattle.lines.specs.Words.{lines}
+use Rattle.lines.specs.Tables.{names_of}
+use Rattle.lines.specs.Steps.{lines_left}
 use Rattle.lines.specs.Says.{some_of, says_move}
 use Rattle.lines.proofs.Saying.{Gaining}
 use Rattle.lines.proofs.says.moves.Given as goal
 
-abbrev pub invariant-loop-at : goal.invariant-loop-at
-invariant-loop-at l =
-    (l.at ≤ length l.text + 1)
-    × Gaining l.initial.set l.set (λ j. some_of (says_move (table l.text l.states l.s) (table l.text l.actions l.a) j) (lines l.text)) (λ j. some_of (says_move (table l.text l.states l.s) (table l.text l.actions l.a) j) (lines_from l.text l.at))
-
-abbrev pub decreases-loop-at : goal.decreases-loop-at
-decreases-loop-at l = length l.text + 1 - l.at
+abbrev pub invariant-loop-line : goal.invariant-loop-line
+invariant-loop-line l =
+    goal.iterator-loop-line.can_next l.line-iterator
+    × goal.iterator-loop-line.is_finite l.line-iterator
+    × Gaining l.initial.set.bytes l.set.bytes (λ j. some_of (says_move (names_of l.states) (names_of l.actions) j) (lines l.text))
+    (λ j. some_of (says_move (names_of l.states) (names_of l.actions) j) (lines_left l.line-iterator))
