@@ -1,4 +1,5 @@
 // Faults of a text, told in lines: the line's number, what is wrong, and the word at fault.
+use lines::names::{List, Names};
 use text::Line;
 
 /// What was seen of a text so far: whether it says a start, and what its goal is made of.
@@ -39,7 +40,6 @@ impl<'a> Report<'a> {
 
 impl Report<'_> {
     ghost use Rattle.std.specs.Prelude.{◌≡◌, false, ◌||◌, ltb};
-    ghost use Rattle.lines.specs.Names.{Lie};
     ghost use Rattle.text.specs.Puts.{Puts};
     ghost use Rattle.faults.specs.Telling.{is_full, one_more, Counts, line_number, fault_line, more_line};
 
@@ -91,14 +91,13 @@ impl Report<'_> {
     }
 
     // The name that the word may stand for, if one is near.
-    fn put_near(&mut self, word: &[u8], text: &[u8], spans: &[usize], n: usize)
-        requires { Lie text.now spans.now n }
+    fn put_near(&mut self, word: &[u8], names: Names<'_>)
         ensures more { self.new.more ≡ self.old.more }
         ensures same_buffer { self.new.told.bytes.ghost_name ≡ self.old.told.bytes.ghost_name }
     {
-        if let Some(name) = crate::near::nearest(text, spans, n, word) {
+        if let Some(k) = crate::near::nearest(names, word) {
             self.told.put_word(b"; did you mean ");
-            self.put_quoted(&text[spans[2 * name]..spans[2 * name + 1]]);
+            self.put_quoted(names.get(k));
             self.told.put(b'?');
         }
     }
@@ -142,8 +141,7 @@ impl Report<'_> {
     }
 
     /// Tells that a word names none of its kind.
-    pub fn tell_unknown(&mut self, kind: &[u8], word: &[u8], text: &[u8], spans: &[usize], n: usize)
-        requires lie { Lie text.now spans.now n }
+    pub fn tell_unknown(&mut self, kind: &[u8], word: &[u8], names: Names<'_>)
         ensures counted { Counts self.old self.new }
     {
         if self.is_full() {
@@ -154,37 +152,33 @@ impl Report<'_> {
         self.told.put_word(kind);
         self.told.put_word(b" is named ");
         self.put_quoted(word);
-        self.put_near(word, text, spans, n);
+        self.put_near(word, names);
         self.told.put(b'\n');
     }
 
     // Tells that a word names no key, if a key of the list is near, and otherwise that it names no goal state.
-    fn tell_key_or(&mut self, word: &[u8], text: &[u8], goals: &[usize], g: usize, list: &[u8])
-        requires lie { Lie text.now goals.now g }
+    fn tell_key_or(&mut self, word: &[u8], goals: Names<'_>, list: &[u8])
         ensures counted { Counts self.old self.new }
     {
-        let mut keys = [0usize; 16];
-        let k = lines::names::list(&mut keys, list, b"keys");
-        if crate::near::nearest(list, &keys, k, word).is_some() {
-            self.tell_unknown(b"key", word, list, &keys, k);
+        let list: List<16> = List::of(list, b"keys");
+        let keys = list.names();
+        if crate::near::nearest(keys, word).is_some() {
+            self.tell_unknown(b"key", word, keys);
         } else {
-            self.tell_unknown(b"goal state", word, text, goals, g);
+            self.tell_unknown(b"goal state", word, goals);
         }
     }
 
     /// Tells that a word before a colon names no goal state, or no key where only a key is near.
-    pub fn tell_no_key(&mut self, word: &[u8], text: &[u8], goals: &[usize], g: usize)
-        requires lie { Lie text.now goals.now g }
+    pub fn tell_no_key(&mut self, word: &[u8], goals: Names<'_>)
         ensures counted { Counts self.old self.new }
     {
-        if crate::near::nearest(text, goals, g, word).is_some() {
-            self.tell_unknown(b"goal state", word, text, goals, g);
+        if crate::near::nearest(goals, word).is_some() {
+            self.tell_unknown(b"goal state", word, goals);
         } else {
             self.tell_key_or(
                 word,
-                text,
                 goals,
-                g,
                 b"keys: states actions facts goal-states start first final goal",
             );
         }

@@ -1,6 +1,8 @@
 // The name that a misspelt word may stand for: the nearest of those that begin or end like it and leave two letters at most of either.
 ghost use Rattle.std.specs.Prelude.{◌+◌, ◌≤◌, ◌<◌, length, IfSome};
-ghost use Rattle.lines.specs.Names.{Lie};
+ghost use Rattle.lines.specs.Tables.{count_of};
+
+use lines::names::Names;
 
 // How many letters two words begin with alike.
 fn alike_front(a: &[u8], b: &[u8]) -> usize
@@ -42,25 +44,14 @@ fn apart(a: &[u8], b: &[u8]) -> Option<usize> {
     Some(x + y)
 }
 
-// How many letters name k of a table and the word leave.
-fn apart_name(text: &[u8], spans: &[usize], n: usize, k: usize, word: &[u8]) -> Option<usize>
-    requires lie { Lie text.now spans.now n }
-    requires k_lt_n { k < n }
-{
-    let start = spans[2 * k];
-    let end = spans[2 * k + 1];
-    apart(&text[start..end], word)
-}
-
-/// The name of a table that leaves the fewest letters beside the word, the first of these; none where no name is near.
-pub fn nearest(text: &[u8], spans: &[usize], n: usize, word: &[u8]) -> Option<usize>
-    requires { Lie text.now spans.now n }
-    ensures { IfSome result (λ k. k < n) }
+/// The name that leaves the fewest letters beside the word, the first of these; none where no name is near.
+pub fn nearest(names: Names<'_>, word: &[u8]) -> Option<usize>
+    ensures { IfSome result (λ k. k < count_of names.entry) }
 {
     let mut best = None;
     let mut least: usize = 5;
-    for k in 0..n {
-        if let Some(left) = apart_name(text, spans, n, k, word) {
+    for k in 0..names.len() {
+        if let Some(left) = apart(names.get(k), word) {
             if left < least {
                 least = left;
                 best = Some(k);
