@@ -1,17 +1,14 @@
--- `is_listing` meets its contract: from i on the names are listed as from the beginning on.
-use Prim.Native.Nat.{◌-◌, ◌≤◌}
+-- `is_listing` meets its contract: the words that are left are listed as all are from the beginning on.
 use mathlib.Core.Bool.{true}
-use mathlib.Core.Path.{◌≡◌}
-use lib.ListN.{length, drop}
-use Rattle.lines.specs.Words.{words}
-use Rattle.lines.specs.Names.{table}
+use Rattle.std.proofs.Common.{◌≡◌}
+use Rattle.lines.specs.Steps.{words_left}
+use Rattle.lines.specs.Tables.{names_of}
 use Rattle.whole.specs.Whole.{listing}
 use Rattle.whole.proofs.is_listing.Given as goal
 
-abbrev pub invariant-loop-i : goal.invariant-loop-i
-invariant-loop-i l =
-    (l.i ≤ length l.text)
-    × (listing (table l.text l.names l.n) l.also l.mark true (words (drop l.at l.text)) ≡ listing (table l.text l.names l.n) l.also l.mark true (words (drop l.i l.text)))
-
-abbrev pub decreases-loop-i : goal.decreases-loop-i
-decreases-loop-i l = length l.text - l.i
+abbrev pub invariant-loop-word : goal.invariant-loop-word
+invariant-loop-word l =
+    goal.iterator-loop-word.can_next l.word-iterator
+    × goal.iterator-loop-word.is_finite l.word-iterator
+    × (listing (names_of l.names) l.also l.mark true (words_left l.fn.line)
+    ≡ listing (names_of l.names) l.also l.mark l.due (words_left l.word-iterator))
