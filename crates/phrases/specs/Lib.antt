@@ -1,2 +1,0 @@
--- What the promises of phrases are said with.
-pub mod Tables
