@@ -2,8 +2,8 @@
 use faults::fault::{Report, Seen};
 
 // Whether something of a table was said.
-fn is_table(seen: Seen, g: usize) -> bool {
-    0 < g || seen.has_first || seen.has_final || seen.has_row
+fn is_table(seen: Seen, goals: usize) -> bool {
+    0 < goals || seen.has_first || seen.has_final || seen.has_row
 }
 
 // Tells what is missing, unless it is there.
@@ -28,9 +28,9 @@ fn check_table(report: &mut Report<'_>, seen: Seen) {
 }
 
 // What a goal lacks, or has too much of.
-fn check_goal(report: &mut Report<'_>, g: usize) {
+fn check_goal(report: &mut Report<'_>, goals: usize) {
     let seen = report.seen;
-    if is_table(seen, g) {
+    if is_table(seen, goals) {
         need(
             report,
             seen.clauses == 0,
@@ -47,15 +47,15 @@ fn check_goal(report: &mut Report<'_>, g: usize) {
 }
 
 // What a text does not list.
-fn check_lists(report: &mut Report<'_>, s: usize, a: usize) {
+fn check_lists(report: &mut Report<'_>, states: usize, actions: usize) {
     need(
         report,
-        0 < s,
+        0 < states,
         b"no states are listed; expected a line 'states: ...'",
     );
     need(
         report,
-        0 < a,
+        0 < actions,
         b"no actions are listed; expected a line 'actions: ...'",
     );
 }
@@ -72,8 +72,14 @@ fn check_moves(report: &mut Report<'_>, moves: usize) {
 }
 
 /// What a text lacks, or has too much of.
-pub fn check_whole(report: &mut Report<'_>, s: usize, a: usize, g: usize, moves: usize) {
-    check_lists(report, s, a);
+pub fn check_whole(
+    report: &mut Report<'_>,
+    states: usize,
+    actions: usize,
+    goals: usize,
+    moves: usize,
+) {
+    check_lists(report, states, actions);
     check_moves(report, moves);
-    check_goal(report, g);
+    check_goal(report, goals);
 }

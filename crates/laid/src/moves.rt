@@ -1,24 +1,21 @@
 // The moves of a set, one after the other.
-ghost use Rattle.std.specs.Prelude.{◌≡◌, length};
+use lines::says::Moves;
 
 /// The moves of a set from one on, in ascending order, each as the number that it has there. Most bytes of the set are 0, and are passed over.
-#[derive(Clone, Copy, Debug)]
-pub struct Moves<'a> {
-    set: &'a [u8],
+#[derive(Clone, Copy)]
+pub struct Said<'a> {
+    set: &'a Moves,
     at: usize,
-    ghost room: { length set.now ≡ 524288 },
 }
 
-impl<'a> Moves<'a> {
+impl<'a> Said<'a> {
     /// All moves of the set.
-    pub fn of(set: &'a [u8]) -> Moves<'a>
-        requires { length set.now ≡ 524288 }
-    {
-        Moves { set, at: 0 }
+    pub fn of(set: &'a Moves) -> Said<'a> {
+        Said { set, at: 0 }
     }
 }
 
-impl Iterator for Moves<'_> {
+impl Iterator for Said<'_> {
     ghost use Rattle.std.specs.Prelude.{◌-◌};
     ghost use Rattle.std.specs.Iterator.{at_most};
 
@@ -30,11 +27,11 @@ impl Iterator for Moves<'_> {
         // not by one: where a byte is 0, its eight numbers are passed over at once
         while self.at < 4194304 {
             let i = self.at;
-            if self.set[i / 8] == 0 {
+            if self.set.bytes[i / 8] == 0 {
                 self.at = 8 * (i / 8 + 1);
             } else {
                 self.at = i + 1;
-                if lines::numbers::has(self.set, i) {
+                if self.set.contains(i) {
                     return Some(i);
                 }
             }

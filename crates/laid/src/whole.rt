@@ -1,14 +1,13 @@
 // The bytes of a job, in the old form where it fits and in the tall one otherwise.
 ghost use Rattle.std.specs.Prelude.{◌≡◌, ◌||◌, ltb, ◌*◌, ◌≤◌, ◌<◌, length};
 
-use crate::moves::Moves;
+use crate::moves::Said;
+use lines::says::{Facts, Moves};
 use text::Line;
 
 /// How many moves the set has, counted up to one more than a job may have.
-pub fn count(moves: &[u8]) -> usize
-    requires { length moves.now ≡ 524288 }
-{
-    Moves::of(moves).take(8193).count()
+pub fn count(moves: &Moves) -> usize {
+    Said::of(moves).take(8193).count()
 }
 
 /// What a job is made of, in numbers.
@@ -79,10 +78,8 @@ fn put_record(line: &mut Line<'_>, tall: bool, i: usize) {
 }
 
 // The records of the moves, in ascending order.
-fn put_records(line: &mut Line<'_>, tall: bool, moves: &[u8])
-    requires { length moves.now ≡ 524288 }
-{
-    for i in Moves::of(moves) {
+fn put_records(line: &mut Line<'_>, tall: bool, moves: &Moves) {
+    for i in Said::of(moves) {
         put_record(line, tall, i);
     }
 }
@@ -109,15 +106,15 @@ pub fn is_tall(states: usize, moves: usize) -> bool
 }
 
 /// Writes a job and answers where it ends.
-pub fn write(out: &mut [u8], z: Sizes, labels: &[u8], moves: &[u8], goal: &[u8]) -> usize
-    requires states_bound { (z.states ≤ 512) × (length labels.now ≡ 512) × (z.moves ≤ 8192) }
-    requires moves_len { (length moves.now ≡ 524288) × (z.goal ≤ length goal.now) }
+pub fn write(out: &mut [u8], z: Sizes, labels: &Facts, moves: &Moves, goal: &[u8]) -> usize
+    requires states_bound { (z.states ≤ 512) × (z.moves ≤ 8192) }
+    requires goal_bound { z.goal ≤ length goal.now }
 {
     let size = moves_size(z.tall, z.moves);
     let mut line = Line { bytes: out, at: 0 };
     put_contents(&mut line, z, counts_size(z.tall), size);
     put_counts(&mut line, z);
-    line.put_word(&labels[..z.states]);
+    line.put_word(&labels.bytes[..z.states]);
     put_records(&mut line, z.tall, moves);
     line.put_word(&goal[..z.goal]);
     line.at

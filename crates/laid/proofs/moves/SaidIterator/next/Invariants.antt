@@ -1,6 +1,6 @@
 -- `next` meets its contract: the set stays, and the bits of a byte are gone through once.
 use Prim.Native.Nat.{◌-◌, ◌≤◌}
-use Rattle.laid.proofs.moves.MovesIterator.next.Given as goal
+use Rattle.laid.proofs.moves.SaidIterator.next.Given as goal
 
 abbrev pub invariant-loop-self : goal.invariant-loop-self
 invariant-loop-self l = l.initial.self.at ≤ l.self.at
