@@ -1,11 +1,9 @@
 // The clauses of a goal, each of which counts, and lines that say nothing.
-ghost use Rattle.std.specs.Prelude.{◌≤◌, length};
-ghost use Rattle.lines.specs.Names.{Lie};
-
 use faults::fault::Report;
-use lines::names::find;
-use lines::word::{is_same, next_word};
+use lines::line::{Word, Words};
+use lines::names::Names;
 use phrases::list::{check_known, expect_end};
+use phrases::tables::Tables;
 
 // One clause more, once its line's other faults are told.
 fn count_clause(report: &mut Report<'_>) {
@@ -16,132 +14,73 @@ fn count_clause(report: &mut Report<'_>) {
     }
 }
 
-// A clause with one fact, which ends where the line has to end.
-fn clause_of_one(
-    report: &mut Report<'_>,
-    one: &[u8],
-    text: &[u8],
-    end: usize,
-    facts: &[usize],
-    f: usize,
-)
-    requires lie { Lie text.now facts.now f }
-    requires end_in_bounds { end ≤ length text.now }
-{
-    expect_end(report, text, end);
-    check_known(report, b"fact", b"", one, text, facts, f);
+// A clause with one fact, after which the line has to end.
+fn clause_of_one(report: &mut Report<'_>, one: Word<'_>, rest: Words<'_>, facts: Names<'_>) {
+    expect_end(report, rest);
+    check_known(report, b"fact", b"", one, facts);
     count_clause(report);
 }
 
-// A clause with two facts, the second of which lies from start to where the line has to end.
+// A clause with two facts, after the second of which the line has to end.
 fn clause_of_two(
     report: &mut Report<'_>,
-    one: &[u8],
-    text: &[u8],
-    start: usize,
-    end: usize,
-    facts: &[usize],
-    f: usize,
-)
-    requires lie { Lie text.now facts.now f }
-    requires start_le_end { (start ≤ end) × (end ≤ length text.now) }
-{
-    expect_end(report, text, end);
-    check_known(report, b"fact", b"", one, text, facts, f);
-    check_known(report, b"fact", b"", &text[start..end], text, facts, f);
+    one: Word<'_>,
+    two: Word<'_>,
+    rest: Words<'_>,
+    facts: Names<'_>,
+) {
+    expect_end(report, rest);
+    check_known(report, b"fact", b"", one, facts);
+    check_known(report, b"fact", b"", two, facts);
     count_clause(report);
 }
 
 // A line "whenever F then G", from its third word on.
-fn whenever_line(
-    report: &mut Report<'_>,
-    one: &[u8],
-    text: &[u8],
-    start: usize,
-    end: usize,
-    facts: &[usize],
-    f: usize,
-)
-    requires lie { Lie text.now facts.now f }
-    requires start_le_end { (start ≤ end) × (end ≤ length text.now) }
-{
-    if !is_same(&text[start..end], b"then") {
+fn whenever_line(report: &mut Report<'_>, one: Word<'_>, mut rest: Words<'_>, facts: Names<'_>) {
+    if !rest.next().is_some_and(|then| then.is(b"then")) {
         return report.tell(b"expected 'then' and a fact after 'whenever' and a fact");
     }
-    let w = next_word(text, end);
-    let from = w.start;
-    let to = w.end;
-    if from == to {
+    let Some(two) = rest.next() else {
         return report.tell(b"expected a fact after 'then'");
-    }
-    clause_of_two(report, one, text, from, to, facts, f);
+    };
+    clause_of_two(report, one, two, rest, facts);
 }
 
 // A line "F before G", from its third word on.
-fn before_line(
-    report: &mut Report<'_>,
-    one: &[u8],
-    text: &[u8],
-    start: usize,
-    end: usize,
-    facts: &[usize],
-    f: usize,
-)
-    requires lie { Lie text.now facts.now f }
-    requires start_le_end { (start ≤ end) × (end ≤ length text.now) }
-{
-    if start == end {
+fn before_line(report: &mut Report<'_>, one: Word<'_>, mut rest: Words<'_>, facts: Names<'_>) {
+    let Some(two) = rest.next() else {
         return report.tell(b"expected a fact after 'before'");
-    }
-    clause_of_two(report, one, text, start, end, facts, f);
+    };
+    clause_of_two(report, one, two, rest, facts);
 }
 
 // A line that says nothing: it begins like a move, or like no line.
-fn lost_line(
-    report: &mut Report<'_>,
-    one: &[u8],
-    three: &[u8],
-    text: &[u8],
-    states: &[usize],
-    s: usize,
-)
-    requires { Lie text.now states.now s }
-{
-    if find(text, states, s, one).is_none() {
+fn lost_line(report: &mut Report<'_>, one: &[u8], mut rest: Words<'_>, states: Names<'_>) {
+    if states.find(one).is_none() {
         report.tell_word(b"no line of the form begins with ", one, b" in this way");
-    } else if three.len() == 0 {
-        report.tell(b"expected '->' and outcomes at the line's end");
+    } else if let Some(three) = rest.next() {
+        report.tell_word(
+            b"expected '->' after the action, found ",
+            three.bytes(),
+            b"",
+        );
     } else {
-        report.tell_word(b"expected '->' after the action, found ", three, b"");
+        report.tell(b"expected '->' and outcomes at the line's end");
     }
 }
 
-/// A clause of the goal, by the first three words of its line.
+/// A clause of the goal, by the first two words of its line and the rest of it.
 pub fn clause_line(
     report: &mut Report<'_>,
-    one: &[u8],
-    two: &[u8],
-    text: &[u8],
-    at: usize,
-    states: &[usize],
-    s: usize,
-    facts: &[usize],
-    f: usize,
-)
-    requires lie { (Lie text.now states.now s) × (Lie text.now facts.now f) }
-    requires at_in_bounds { at ≤ length text.now }
-{
-    if is_same(one, b"eventually") || is_same(one, b"never") {
-        return clause_of_one(report, two, text, at, facts, f);
-    }
-    let w = next_word(text, at);
-    let from = w.start;
-    let to = w.end;
-    if is_same(one, b"whenever") {
-        whenever_line(report, two, text, from, to, facts, f);
-    } else if is_same(two, b"before") {
-        before_line(report, one, text, from, to, facts, f);
-    } else {
-        lost_line(report, one, &text[from..to], text, states, s);
+    one: Word<'_>,
+    two: Word<'_>,
+    rest: Words<'_>,
+    tables: Tables<'_>,
+) {
+    match one.bytes() {
+        b"eventually" | b"never" => clause_of_one(report, two, rest, tables.facts),
+        b"whenever" => whenever_line(report, two, rest, tables.facts),
+        _ if two.is(b"before") => before_line(report, one, rest, tables.facts),
+        other => lost_line(report, other, rest, tables.states),
     }
 }

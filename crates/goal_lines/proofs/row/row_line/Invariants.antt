@@ -1,10 +1,7 @@
--- `row::row_line` meets its contract.
+-- `row::row_line` meets its contract: each round takes a word of the line.
 use lib.ListN.{length}
-use Prim.Native.Nat.{◌-◌, ◌≤◌}
+use Rattle.lines.specs.Steps.{words_left}
 use Rattle.goal_lines.proofs.row.row_line.Given as goal
 
-abbrev pub invariant-loop-i : goal.invariant-loop-i
-invariant-loop-i l = l.i ≤ length l.text
-
-abbrev pub decreases-loop-i : goal.decreases-loop-i
-decreases-loop-i l = length l.text - l.i
+abbrev pub decreases-loop-word : goal.decreases-loop-word
+decreases-loop-word l = length (words_left l.line)
