@@ -9,4 +9,4 @@ use Rattle.meant.proofs.all_recorded.Given as goal
 
 abbrev pub invariant-loop-k : goal.invariant-loop-k
 invariant-loop-k l =
-    (j : ℕ) → j < 8 * l.k → has l.moves j ≡ true → recorded (said l.job) (j / 8192) (j / 512 % 16) (j % 512) ≡ true
+    (j : ℕ) → j < 8 * l.k → has l.moves.bytes j ≡ true → recorded (said l.job) (j / 8192) (j / 512 % 16) (j % 512) ≡ true

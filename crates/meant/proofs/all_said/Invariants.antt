@@ -8,4 +8,4 @@ use Rattle.meant.specs.Meant.{move_number}
 use Rattle.meant.proofs.all_said.Given as goal
 
 abbrev pub invariant-loop-k : goal.invariant-loop-k
-invariant-loop-k l = (i : ℕ) → i < l.k → has l.moves (move_number ((said l.job).move i)) ≡ true
+invariant-loop-k l = (i : ℕ) → i < l.k → has l.moves.bytes (move_number ((said l.job).move i)) ≡ true

@@ -9,4 +9,4 @@ use Rattle.meant.proofs.byte_recorded.Given as goal
 
 abbrev pub invariant-loop-i : goal.invariant-loop-i
 invariant-loop-i l =
-    (j : ℕ) → j < l.i → 8 * l.k ≤ j → has l.moves j ≡ true → recorded (said l.job) (j / 8192) (j / 512 % 16) (j % 512) ≡ true
+    (j : ℕ) → j < l.i → 8 * l.k ≤ j → has l.moves.bytes j ≡ true → recorded (said l.job) (j / 8192) (j / 512 % 16) (j % 512) ≡ true

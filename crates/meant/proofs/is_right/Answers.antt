@@ -9,7 +9,7 @@ pub returns-then-all_recorded : goal.returns-then-all_recorded
 returns-then-all_recorded c =
     elim c.if-all_said.branch [
       | then-all_said w ↦
-          λ e. meant c.requires.fit _ (c.all_said.ensures w.if-all_said.true) (w.all_recorded.ensures (sym w.value-is ∙ c.if-all_recorded.true)) _
+          λ e. meant c.requires _ (c.all_said.ensures w.if-all_said.true) (w.all_recorded.ensures (sym w.value-is ∙ c.if-all_recorded.true)) _
           (c.labels_same.ensures e)
       | else-all_said w ↦ λ e. absurd (false≢true (sym w.if-all_said.false ∙ sym w.value-is ∙ c.if-all_recorded.true))
     ]

@@ -5,4 +5,4 @@ use lib.ListN.{get_or}
 use Rattle.meant.proofs.labels_same.Given as goal
 
 abbrev pub invariant-loop-s : goal.invariant-loop-s
-invariant-loop-s l = (i : ℕ) → i < l.s → get_or l.job (l.at + i) 0 ≡ get_or l.labels i 0
+invariant-loop-s l = (i : ℕ) → i < l.s → get_or l.job (l.at + i) 0 ≡ get_or l.labels.bytes i 0
