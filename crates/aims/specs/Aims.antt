@@ -1,7 +1,7 @@
 -- What a text's lines say of the start, of the first goal state, and of the clauses of the goal.
-use Rattle.std.specs.Prelude.{ℕ, ◌≤◌, Bool, false, cond, ◌||◌, List, [], ◌∷◌, ◌++◌, ◌≡◌, eqb, length, drop}
+use Rattle.std.specs.Prelude.{ℕ, Bool, false, cond, ◌||◌, List, [], ◌∷◌, ◌++◌, length}
 use Rattle.text.specs.Lines.{bytes}
-use Rattle.lines.specs.Words.{words, part, same_word}
+use Rattle.lines.specs.Words.{same_word}
 use Rattle.lines.specs.Names.{colon, after_key, index_of}
 use Rattle.lines.specs.Says.{arrow, is}
 
@@ -17,12 +17,6 @@ named_first names (w ∷ ws) other = index_of names w
 unfoldable pub given : List ℕ → List (List ℕ) → List (List (List ℕ)) → ℕ
 given key names [] = length names
 given key names (l ∷ ls) = named_first names (after_key key l) (given key names ls)
-
--- From a line's beginning on, the first word after the key and a colon lies from start to end; where these are the same, there is none.
-pub record AfterKey (key t : List ℕ) (at start end : ℕ) : Type 0 where
-  pub order : start ≤ end
-  pub inside : end ≤ length t
-  pub said : after_key key (words (drop at t)) ≡ cond (eqb start end) [] (part t start end ∷ words (drop end t))
 
 -- ---- clauses of the goal
 

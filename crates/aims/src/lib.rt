@@ -1,222 +1,142 @@
 // What the lines of a text say of the start, of the first goal state, and of the clauses of the goal.
 #![tactic(auto)]
 
-ghost use Rattle.std.specs.Prelude.{◌≡◌, ◌≤◌, ◌<◌, length, drop, IfSome};
+ghost use Rattle.std.specs.Prelude.{◌≡◌, ◌≤◌, ◌<◌, IfSome};
 ghost use Rattle.text.specs.PutText.{PutText};
 ghost use Rattle.text.specs.Puts.{Puts};
-ghost use Rattle.lines.specs.Words.{words, lines};
-ghost use Rattle.lines.specs.Names.{Lie, table, index_of, found};
-ghost use Rattle.aims.specs.Aims.{given, AfterKey, three, whenever_said, before_said, clause_of, no_clause, clause_said, clauses_said};
+ghost use Rattle.lines.specs.Words.{lines};
+ghost use Rattle.lines.specs.Names.{index_of, found};
+ghost use Rattle.lines.specs.Steps.{bytes_of, words_left};
+ghost use Rattle.lines.specs.Tables.{names_of, count_of};
+ghost use Rattle.slips.specs.Writing.{kind_number};
+ghost use Rattle.aims.specs.Aims.{given, three, whenever_said, before_said, clause_of, no_clause, clause_said, clauses_said};
 
-use lines::names::find;
-use lines::word::{Word, is_same, next_line, next_word};
+use lines::line::{Lines, Word, Words};
+use lines::names::Names;
+use slips::kind::Kind;
 use text::Line;
 
-// The first word after the key and a colon that begin a line; where there is none, it ends where it starts.
-#[tactic(auto, using(lines::proofs::Wording::after_none, lines::proofs::Wording::after_some), unfolding(lines::specs::Names::after_key))]
-fn after_key(text: &[u8], at: usize, key: &[u8]) -> Word
-    requires { at ≤ length text.now }
-    ensures { AfterKey key.now text.now at result.start result.end }
+// The number of the name that the first line with a key and a colon names, if that is one of the names.
+#[tactic(auto, using(lines::proofs::Tabling::names_counted), unfolding(crate::specs::Aims::given, crate::specs::Aims::named_first))]
+pub fn given(text: &[u8], key: &[u8], names: Names<'_>) -> Option<usize>
+    ensures index { found result (count_of names.entry) ≡ given key.now (names_of names.entry) (lines text.now) }
+    ensures within { IfSome result (λ k. k < count_of names.entry) }
 {
-    let k = next_word(text, at);
-    let start = k.start;
-    let end = k.end;
-    if start == end {
-        return Word { start, end: start };
-    }
-    let c = next_word(text, end);
-    let from = c.start;
-    let to = c.end;
-    if from == to || !is_same(&text[start..end], key) || !is_same(&text[from..to], b":") {
-        return Word { start, end: start };
-    }
-    next_word(text, to)
-}
-
-// The number of the name that the first line with a key and a colon names.
-pub fn given(text: &[u8], key: &[u8], names: &[usize], n: usize) -> Option<usize>
-    requires { Lie text.now names.now n }
-    ensures index { found result n ≡ given key.now (table text.now names.now n) (lines text.now) }
-    ensures within { IfSome result (λ k. k < n) }
-{
-    let mut at: usize = 0;
-    while at <= text.len() {
-        let w = after_key(text, at, key);
-        let start = w.start;
-        let end = w.end;
-        if start != end {
-            return find(text, names, n, &text[start..end]);
+    for line in Lines::of(text) {
+        if let Some(mut rest) = line.after_key(key) {
+            if let Some(word) = rest.next() {
+                return names.find(word.bytes());
+            }
         }
-        at = next_line(text, at);
     }
     None
 }
 
-// Puts a clause with two facts, which are given by their words; a word that is no fact has the number after the last.
-// The kind is a number, as a slip has it: this crate does not rest on slips, whose type says the kinds.
-fn put_three(
-    slip: &mut Line<'_>,
-    kind: u8,
-    text: &[u8],
-    facts: &[usize],
-    f: usize,
-    one: &[u8],
-    other: &[u8],
-)
-    requires { (Lie text.now facts.now f) × (f ≤ 6) }
+// Puts a clause of a kind with two facts, which are given by their words. A word that is no fact has the number after the last.
+fn put_three(slip: &mut Line<'_>, kind: Kind, facts: Names<'_>, one: Word<'_>, other: Word<'_>)
+    requires { count_of facts ≤ 6 }
     ensures { Puts slip.old
-        (three kind (index_of (table text.now facts.now f) one.now)
-        (index_of (table text.now facts.now f) other.now))
+        (three (kind_number kind) (index_of (names_of facts.entry) (bytes_of one.entry))
+        (index_of (names_of facts.entry) (bytes_of other.entry)))
         slip.new }
 {
-    let a = find(text, facts, f, one).unwrap_or(f) as u8;
-    let b = find(text, facts, f, other).unwrap_or(f) as u8;
-    slip.put(kind);
-    slip.put(a);
-    slip.put(b);
+    let a = facts.find(one.bytes()).unwrap_or(facts.len());
+    let b = facts.find(other.bytes()).unwrap_or(facts.len());
+    slip.put(u8::from(kind));
+    slip.put(a as u8);
+    slip.put(b as u8);
 }
 
 // Puts the clause of a line "whenever F then G", from after F on.
-fn put_whenever(
-    slip: &mut Line<'_>,
-    text: &[u8],
-    from: usize,
-    one: &[u8],
-    facts: &[usize],
-    f: usize,
-)
-    requires lie { (Lie text.now facts.now f) × (f ≤ 6) }
-    requires from_in_bounds { from ≤ length text.now }
+#[tactic(auto, using(crate::proofs::Aiming::put_same, crate::proofs::Aiming::put_nothing), unfolding(crate::specs::Aims::whenever_said))]
+fn put_whenever(slip: &mut Line<'_>, mut rest: Words<'_>, one: Word<'_>, facts: Names<'_>)
+    requires { count_of facts ≤ 6 }
     ensures { Puts slip.old
-        (whenever_said (table text.now facts.now f)
-        (index_of (table text.now facts.now f) one.now)
-        (words (drop from text.now)))
+        (whenever_said (names_of facts.entry) (index_of (names_of facts.entry) (bytes_of one.entry)) (words_left rest.entry))
         slip.new }
 {
-    let t = next_word(text, from);
-    let start = t.start;
-    let end = t.end;
-    if start == end {
-        return;
-    }
-    let c = next_word(text, end);
-    let start2 = c.start;
-    let end2 = c.end;
-    if start2 == end2 {
-        return;
-    }
-    if is_same(&text[start..end], b"then") {
-        put_three(slip, 2, text, facts, f, one, &text[start2..end2]);
+    if let (Some(then), Some(other)) = (rest.next(), rest.next()) {
+        if then.is(b"then") {
+            put_three(slip, Kind::Response, facts, one, other);
+        }
     }
 }
 
 // Puts the clause of a line "F before G", from after the word before on.
-fn put_before(slip: &mut Line<'_>, text: &[u8], from: usize, one: &[u8], facts: &[usize], f: usize)
-    requires lie { (Lie text.now facts.now f) × (f ≤ 6) }
-    requires from_in_bounds { from ≤ length text.now }
+#[tactic(auto, using(crate::proofs::Aiming::put_same, crate::proofs::Aiming::put_nothing), unfolding(crate::specs::Aims::before_said))]
+fn put_before(slip: &mut Line<'_>, mut rest: Words<'_>, one: Word<'_>, facts: Names<'_>)
+    requires { count_of facts ≤ 6 }
     ensures { Puts slip.old
-        (before_said (table text.now facts.now f)
-        (index_of (table text.now facts.now f) one.now)
-        (words (drop from text.now)))
+        (before_said (names_of facts.entry) (index_of (names_of facts.entry) (bytes_of one.entry)) (words_left rest.entry))
         slip.new }
 {
-    let c = next_word(text, from);
-    let start = c.start;
-    let end = c.end;
-    if start != end {
-        put_three(slip, 3, text, facts, f, one, &text[start..end]);
+    if let Some(other) = rest.next() {
+        put_three(slip, Kind::Precedence, facts, one, other);
     }
 }
 
 // Puts the clause of a line by its first two words, from after them on.
-fn put_clause(
-    slip: &mut Line<'_>,
-    text: &[u8],
-    from: usize,
-    one: &[u8],
-    two: &[u8],
-    facts: &[usize],
-    f: usize,
-)
-    requires lie { (Lie text.now facts.now f) × (f ≤ 6) }
-    requires from_in_bounds { from ≤ length text.now }
+#[tactic(auto, using(crate::proofs::Aiming::put_same, crate::proofs::Aiming::put_nothing), unfolding(crate::specs::Aims::clause_of))]
+fn put_clause(slip: &mut Line<'_>, one: Word<'_>, two: Word<'_>, rest: Words<'_>, facts: Names<'_>)
+    requires { count_of facts ≤ 6 }
     ensures { Puts slip.old
-        (clause_of (table text.now facts.now f) one.now two.now (words (drop from text.now)))
+        (clause_of (names_of facts.entry) (bytes_of one.entry) (bytes_of two.entry) (words_left rest.entry))
         slip.new }
 {
-    if is_same(one, b"eventually") {
-        put_three(slip, 0, text, facts, f, two, two);
-    } else if is_same(one, b"never") {
-        put_three(slip, 1, text, facts, f, two, two);
-    } else if is_same(one, b"whenever") {
-        put_whenever(slip, text, from, two, facts, f);
-    } else if is_same(two, b"before") {
-        put_before(slip, text, from, one, facts, f);
+    if one.is(b"eventually") {
+        put_three(slip, Kind::Existence, facts, two, two);
+    } else if one.is(b"never") {
+        put_three(slip, Kind::Absence, facts, two, two);
+    } else if one.is(b"whenever") {
+        put_whenever(slip, rest, two, facts);
+    } else if two.is(b"before") {
+        put_before(slip, rest, one, facts);
     }
 }
 
 // Whether a line is no clause, by its second word and what follows.
-#[tactic(auto, using(lines::proofs::Wording::after_none, lines::proofs::Wording::after_some), unfolding(crate::specs::Aims::no_clause, crate::specs::Aims::begins))]
-fn is_no_clause(text: &[u8], two: &[u8], from: usize) -> bool
-    requires { from ≤ length text.now }
-    ensures { result ≡ no_clause two.now (words (drop from text.now)) }
+#[tactic(auto, unfolding(crate::specs::Aims::no_clause, crate::specs::Aims::begins))]
+fn is_no_clause(two: Word<'_>, mut rest: Words<'_>) -> bool
+    ensures { result ≡ no_clause (bytes_of two.entry) (words_left rest.entry) }
 {
-    if is_same(two, b":") || is_same(two, b"is") {
+    if two.is(b":") || two.is(b"is") {
         return true;
     }
-    let w = next_word(text, from);
-    let start = w.start;
-    let end = w.end;
-    start != end && is_same(&text[start..end], b"->")
+    match rest.next() {
+        Some(three) => three.is(b"->"),
+        None => false,
+    }
 }
 
-// Puts the clause that a line says, from the line's beginning on.
-fn put_line(slip: &mut Line<'_>, text: &[u8], from: usize, facts: &[usize], f: usize)
-    requires lie { (Lie text.now facts.now f) × (f ≤ 6) }
-    requires from_in_bounds { from ≤ length text.now }
-    ensures { Puts slip.old
-        (clause_said (table text.now facts.now f) (words (drop from text.now)))
-        slip.new }
+// Puts the clause that a line says.
+#[tactic(auto, using(crate::proofs::Aiming::put_same, crate::proofs::Aiming::put_nothing), unfolding(crate::specs::Aims::clause_said))]
+fn put_line(slip: &mut Line<'_>, mut line: Words<'_>, facts: Names<'_>)
+    requires { count_of facts ≤ 6 }
+    ensures { Puts slip.old (clause_said (names_of facts.entry) (words_left line.entry)) slip.new }
 {
-    let a = next_word(text, from);
-    let start = a.start;
-    let end = a.end;
-    if start == end {
-        return;
-    }
-    let b = next_word(text, end);
-    let start2 = b.start;
-    let end2 = b.end;
-    if start2 == end2 {
-        return;
-    }
-    let one = &text[start..end];
-    let two = &text[start2..end2];
-    if !is_no_clause(text, two, end2) {
-        put_clause(slip, text, end2, one, two, facts, f);
+    if let (Some(one), Some(two)) = (line.next(), line.next()) {
+        if !is_no_clause(two, line) {
+            put_clause(slip, one, two, line, facts);
+        }
     }
 }
 
 // Puts the clauses of the goal that a text says, line by line.
-fn put_clauses(slip: &mut Line<'_>, text: &[u8], facts: &[usize], f: usize)
-    requires { (Lie text.now facts.now f) × (f ≤ 6) }
-    ensures { Puts slip.old (clauses_said (table text.now facts.now f) (lines text.now)) slip.new }
+fn put_clauses(slip: &mut Line<'_>, text: &[u8], facts: Names<'_>)
+    requires { count_of facts ≤ 6 }
+    ensures { Puts slip.old (clauses_said (names_of facts.entry) (lines text.now)) slip.new }
 {
-    let mut at: usize = 0;
-    while at <= text.len() {
-        put_line(slip, text, at, facts, f);
-        at = next_line(text, at);
+    for line in Lines::of(text) {
+        put_line(slip, line, facts);
     }
 }
 
 // Writes the clauses of the goal that a text says as the bytes of a slip, as many as it has room for, and answers how many bytes these are.
-pub fn clauses(slip: &mut [u8], text: &[u8], facts: &[usize], f: usize) -> usize
-    requires { (Lie text.now facts.now f) × (f ≤ 6) }
-    ensures { PutText slip.old 0
-        (clauses_said (table text.now facts.now f) (lines text.now))
-        slip.new result }
+pub fn clauses(slip: &mut [u8], text: &[u8], facts: Names<'_>) -> usize
+    requires { count_of facts ≤ 6 }
+    ensures { PutText slip.old 0 (clauses_said (names_of facts.entry) (lines text.now)) slip.new result }
 {
     let mut line = Line { bytes: slip, at: 0 };
-    put_clauses(&mut line, text, facts, f);
+    put_clauses(&mut line, text, facts);
     line.at
 }

@@ -1,16 +1,13 @@
 -- `given` meets its contract: no line passed has a word after the key.
-use Prim.Native.Nat.{◌+◌, ◌-◌, ◌≤◌}
-use mathlib.Core.Path.{◌≡◌}
-use lib.ListN.{length}
-use Rattle.lines.specs.Words.{lines, lines_from}
-use Rattle.lines.specs.Names.{table}
+use Rattle.std.proofs.Common.{◌≡◌}
+use Rattle.lines.specs.Words.{lines}
+use Rattle.lines.specs.Steps.{lines_left}
+use Rattle.lines.specs.Tables.{names_of}
 use Rattle.aims.specs.Aims.{given}
 use Rattle.aims.proofs.given.Given as goal
 
-abbrev pub invariant-loop-at : goal.invariant-loop-at
-invariant-loop-at l =
-    (l.at ≤ length l.text + 1)
-    × (given l.key (table l.text l.names l.n) (lines l.text) ≡ given l.key (table l.text l.names l.n) (lines_from l.text l.at))
-
-abbrev pub decreases-loop-at : goal.decreases-loop-at
-decreases-loop-at l = length l.text + 1 - l.at
+abbrev pub invariant-loop-line : goal.invariant-loop-line
+invariant-loop-line l =
+    goal.iterator-loop-line.can_next l.line-iterator
+    × goal.iterator-loop-line.is_finite l.line-iterator
+    × (given l.key (names_of l.names) (lines l.text) ≡ given l.key (names_of l.names) (lines_left l.line-iterator))
