@@ -1,55 +1,43 @@
 -- The laws of rows: a name that was found, where a row leads word by word, and the first row that fits.
-use Prim.Native.Nat.{ℕ, zero, suc, ◌+◌, ◌≤◌, ◌<◌}
+use Prim.Native.Nat.{ℕ, zero, suc, ◌≤◌, ◌<◌}
 use mathlib.Core.Bool.{Bool, true, false, cond, ◌||◌, true≢false, false≢true}
-use mathlib.Core.List.{List}
+use mathlib.Core.List.{List, [], ◌∷◌}
 use mathlib.Core.Path.{◌≡◌, refl, sym, ap, ◌∙◌}
 use native.Mathlib.Omega.{arith}
-use borrow.Author.Tests.{lt-ltb, le-ltb, ne_eqb, le-leb, ltb-true}
+use borrow.Author.Tests.{lt-ltb, le-ltb, ne_eqb, ltb-true}
 use lib.Dec.{eqb, ltb}
-use lib.ListN.{length, drop}
-use Rattle.lines.specs.Words.{part, same_word, words, lines, lines_from, NextWord, NextLine}
-use Rattle.std.specs.Prelude.{Option, Some, None, IfSome, is_some, unwrap_or}
+use lib.ListN.{length, get_or}
+use Rattle.lines.specs.Words.{same_word}
+use Rattle.std.specs.Prelude.{Option, Some, None, IfSome, unwrap_or}
 use Rattle.std.specs.Option.{option_eq}
-use Rattle.lines.specs.Names.{found, index_of, name, table_from, table}
+use Rattle.lines.specs.Names.{found, index_of}
 use Rattle.lines.specs.Says.{arrow}
-use Rattle.lines.proofs.Wording.{after_none, after_some, words_past, no_lines_from, lines_first, same_word_true}
+use Rattle.lines.proofs.Wording.{same_word_true}
 use Rattle.rows.specs.Rows.{comma, not_word, suits, to_goal, aim, row_aim, first_aim, next_said}
 use Rattle.rows.specs.Cells.{lets}
-
--- what was found, and what was not
-pub found_some : (o : Option ℕ) (n : ℕ) → is_some o ≡ true → IfSome o (λ k. k < n) → found o n < n
-found_some None n e h = absurd (false≢true e)
-found_some (Some k) n e h = h
-
-pub found_none : (o : Option ℕ) (n : ℕ) → is_some o ≡ false → n ≤ found o n
-found_none None n e = omega arith
-found_none (Some k) n e = absurd (true≢false e)
 
 -- whether one number was found
 pub found_it : (o : Option ℕ) (n q : ℕ) → IfSome o (λ k. k < n) → q < n → option_eq eqb o (Some q) ≡ eqb (found o n) q
 found_it None n q h l = sym (ne_eqb n q (omega arith))
 found_it (Some k) n q h l = refl
 
--- a name of a table that is not spelt like the word is not the one that is looked up
-spelt : (t sp w : List ℕ) (k n j : ℕ) → j < n → same_word (name t sp (k + j)) w ≡ false → index_of (table_from t sp k n) w ≡ j → ⊥
-unfolding index_of table_from
-spelt t sp w k zero j h z e = omega arith
-spelt t sp w k (suc n) j h z e = go (same_word (name t sp k) w) refl e (λ i. spelt t sp w (suc k) n i)
+-- a name that is not spelt like the word is not the one that is looked up
+spelt : (xs : List (List ℕ)) (w : List ℕ) (j : ℕ) → j < length xs → same_word (get_or xs j []) w ≡ false → index_of xs w ≡ j → ⊥
+unfolding index_of
+spelt [] w j h z e = omega arith
+spelt (x ∷ xs) w zero h z e = go (same_word x w) refl e
   where
-    moved : (i : ℕ) → i ≡ k + j → same_word (name t sp i) w ≡ false
-    moved i q = ap (λ (x : ℕ). same_word (name t sp x) w) q ∙ z
+    go : (b : Bool) → same_word x w ≡ b → cond b 0 (suc (index_of xs w)) ≡ zero → ⊥
+    go true y q = true≢false (sym y ∙ z)
+    go false y q = omega arith
+spelt (x ∷ xs) w (suc j) h z e = go (same_word x w) e (spelt xs w j (omega arith) z)
+  where
+    go : (b : Bool) → cond b 0 (suc (index_of xs w)) ≡ suc j → (index_of xs w ≡ j → ⊥) → ⊥
+    go true q rest = omega arith
+    go false q rest = rest (omega arith)
 
-    go : (b : Bool) → same_word (name t sp k) w ≡ b → cond b 0 (suc (index_of (table_from t sp (suc k) n) w)) ≡ j
-        → ((i : ℕ) → i < n → same_word (name t sp (suc k + i)) w ≡ false → index_of (table_from t sp (suc k) n) w ≡ i → ⊥) → ⊥
-    go true y q rest = true≢false (sym y ∙ moved k (omega arith))
-    go false y q rest =
-        let i = index_of (table_from t sp (suc k) n) w in
-        rest i (omega arith) (moved (suc k + i) (omega arith)) refl
-
-pub not_spelt : (t sp w : List ℕ) (n j : ℕ) → j < n → same_word (name t sp j) w ≡ false → false ≡ eqb (index_of (table t sp n) w) j
-not_spelt t sp w n j h z =
-    let q : 0 + j ≡ j = omega arith in
-    sym (ne_eqb (index_of (table t sp n) w) j (spelt t sp w 0 n j h (ap (λ (x : ℕ). same_word (name t sp x) w) q ∙ z)))
+pub not_spelt : (xs : List (List ℕ)) (w : List ℕ) (j : ℕ) → j < length xs → same_word (get_or xs j []) w ≡ false → false ≡ eqb (index_of xs w) j
+not_spelt xs w j h z = sym (ne_eqb (index_of xs w) j (spelt xs w j h z))
 
 -- ---- one word of a row
 
@@ -75,64 +63,51 @@ stops f out false false false e = refl
 
 -- ---- the words of a row
 
-module _ (facts goals : List (List ℕ)) (l : ℕ) (ban : Bool) {t : List ℕ} {at s e : ℕ} (n : NextWord t at s e) where
-  pub aim_none : s ≡ e → aim facts goals l ban (words (drop at t)) ≡ length goals
-  unfolding aim
-  aim_none q = rw (after_none n q)
-
-  module _ (q : s ≡ e → ⊥) where
-    pub aim_arrow : same_word (part t s e) arrow ≡ true → aim facts goals l ban (words (drop at t)) ≡ to_goal goals (words (drop e t))
-    unfolding aim
-    aim_arrow z = rw (after_some n q, aim, z)
-
-    past_arrow : same_word (part t s e) arrow ≡ false
-        → aim facts goals l ban (words (drop at t))
-        ≡ cond (same_word (part t s e) comma) (aim facts goals l false (words (drop e t)))
-        (cond (same_word (part t s e) not_word) (aim facts goals l true (words (drop e t)))
-        (cond (suits facts l ban (part t s e)) (aim facts goals l false (words (drop e t)))
-        (length goals)))
-    unfolding aim
-    past_arrow z = rw (after_some n q, aim, z)
-
-    pub aim_unfit : same_word (part t s e) arrow ≡ false → lets facts l ban (part t s e) ≡ false
-        → aim facts goals l ban (words (drop at t)) ≡ length goals
-    aim_unfit z u =
-        past_arrow z
-        ∙ stops (λ b. aim facts goals l b (words (drop e t))) (length goals) (same_word (part t s e) comma) (same_word (part t s e) not_word)
-        (suits facts l ban (part t s e)) u
-
-    pub aim_on : (b : Bool) → b ≡ same_word (part t s e) not_word → same_word (part t s e) arrow ≡ false
-        → lets facts l ban (part t s e) ≡ true → aim facts goals l ban (words (drop at t)) ≡ aim facts goals l b (words (drop e t))
-    aim_on b y z u =
-        rw y
-        (past_arrow z
-        ∙ goes_on (λ b. aim facts goals l b (words (drop e t))) (length goals) (same_word (part t s e) comma) (same_word (part t s e) not_word)
-        (suits facts l ban (part t s e)) (comma_only (part t s e)) u)
-
-pub aim_past : (facts goals : List (List ℕ)) (l : ℕ) (ban : Bool) (t : List ℕ) (i : ℕ) → length t ≤ i
-    → aim facts goals l ban (words (drop i t)) ≡ length goals
+pub aim_none : (facts goals : List (List ℕ)) (l : ℕ) (ban : Bool) {s : List (List ℕ)} → s ≡ [] → aim facts goals l ban s ≡ length goals
 unfolding aim
-aim_past facts goals l ban t i h = rw (words_past t i h)
+aim_none facts goals l ban e = rw e
+
+module _ (facts goals : List (List ℕ)) (l : ℕ) (ban : Bool) {s ws : List (List ℕ)} {w : List ℕ} (n : s ≡ w ∷ ws) where
+  pub aim_arrow : same_word w arrow ≡ true → aim facts goals l ban s ≡ to_goal goals ws
+  unfolding aim
+  aim_arrow z = rw (n, aim, z)
+
+  past_arrow : same_word w arrow ≡ false
+      → aim facts goals l ban s
+      ≡ cond (same_word w comma) (aim facts goals l false ws)
+      (cond (same_word w not_word) (aim facts goals l true ws)
+      (cond (suits facts l ban w) (aim facts goals l false ws)
+      (length goals)))
+  unfolding aim
+  past_arrow z = rw (n, aim, z)
+
+  pub aim_unfit : same_word w arrow ≡ false → lets facts l ban w ≡ false → aim facts goals l ban s ≡ length goals
+  aim_unfit z u =
+      past_arrow z
+      ∙ stops (λ b. aim facts goals l b ws) (length goals) (same_word w comma) (same_word w not_word) (suits facts l ban w) u
+
+  pub aim_on : (b : Bool) → b ≡ same_word w not_word → same_word w arrow ≡ false → lets facts l ban w ≡ true
+      → aim facts goals l ban s ≡ aim facts goals l b ws
+  aim_on b y z u =
+      rw y
+      (past_arrow z
+      ∙ goes_on (λ b. aim facts goals l b ws) (length goals) (same_word w comma) (same_word w not_word) (suits facts l ban w) (comma_only w) u)
 
 -- ---- the first row that fits
 
-module _ (facts goals : List (List ℕ)) (q l : ℕ) where
-  pub first_begin : (t : List ℕ) → first_aim facts goals q l (lines t) ≡ first_aim facts goals q l (lines_from t 0)
-  first_begin t = ap (first_aim facts goals q l) (sym (lines_first t))
-
-  module _ (t : List ℕ) (at to : ℕ) (z : to ≡ row_aim facts goals q l (words (drop at t))) where
-    pub first_here : at ≤ length t → to < length goals → first_aim facts goals q l (lines_from t at) ≡ to
-    unfolding first_aim
-    first_here h k = rw (le-leb at (length t) h, first_aim, ← z, lt-ltb to (length goals) k)
-
-    pub first_later : {r : ℕ} → NextLine t at r → length goals ≤ to
-        → first_aim facts goals q l (lines_from t at) ≡ first_aim facts goals q l (lines_from t r)
-    unfolding first_aim
-    first_later m k = rw (m.said, first_aim, ← z, le-ltb to (length goals) k)
-
-  pub first_none : (t : List ℕ) (at : ℕ) → length t < at → first_aim facts goals q l (lines_from t at) ≡ length goals
+module _ (facts goals : List (List ℕ)) (q l : ℕ) {s rest : List (List (List ℕ))} {x : List (List ℕ)} (n : s ≡ x ∷ rest) (to : ℕ)
+    (z : to ≡ row_aim facts goals q l x) where
+  pub first_here : to < length goals → first_aim facts goals q l s ≡ to
   unfolding first_aim
-  first_none t at h = rw (no_lines_from t at h)
+  first_here k = rw (n, first_aim, ← z, lt-ltb to (length goals) k)
+
+  pub first_later : length goals ≤ to → first_aim facts goals q l s ≡ first_aim facts goals q l rest
+  unfolding first_aim
+  first_later k = rw (n, first_aim, ← z, le-ltb to (length goals) k)
+
+pub first_none : (facts goals : List (List ℕ)) (q l : ℕ) {s : List (List (List ℕ))} → s ≡ [] → first_aim facts goals q l s ≡ length goals
+unfolding first_aim
+first_none facts goals q l e = rw e
 
 -- ---- the next goal state
 

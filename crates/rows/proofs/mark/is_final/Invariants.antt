@@ -1,16 +1,13 @@
 -- `mark::is_final` meets its contract: no line passed calls the goal state final.
-use Prim.Native.Nat.{◌+◌, ◌-◌, ◌≤◌}
-use mathlib.Core.Path.{◌≡◌}
-use lib.ListN.{length}
-use Rattle.lines.specs.Words.{lines, lines_from}
-use Rattle.lines.specs.Names.{table}
+use Rattle.std.proofs.Common.{◌≡◌}
+use Rattle.lines.specs.Words.{lines}
+use Rattle.lines.specs.Steps.{lines_left}
+use Rattle.lines.specs.Tables.{names_of}
 use Rattle.rows.specs.Rows.{final_said}
 use Rattle.rows.proofs.mark.is_final.Given as goal
 
-abbrev pub invariant-loop-at : goal.invariant-loop-at
-invariant-loop-at l =
-    (l.at ≤ length l.text + 1)
-    × (final_said (table l.text l.goals l.g) (lines l.text) l.q ≡ final_said (table l.text l.goals l.g) (lines_from l.text l.at) l.q)
-
-abbrev pub decreases-loop-at : goal.decreases-loop-at
-decreases-loop-at l = length l.text + 1 - l.at
+abbrev pub invariant-loop-line : goal.invariant-loop-line
+invariant-loop-line l =
+    goal.iterator-loop-line.can_next l.line-iterator
+    × goal.iterator-loop-line.is_finite l.line-iterator
+    × (final_said (names_of l.goals) (lines l.text) l.q ≡ final_said (names_of l.goals) (lines_left l.line-iterator) l.q)

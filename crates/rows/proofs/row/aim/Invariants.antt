@@ -1,18 +1,14 @@
--- `row::aim` meets its contract: the row leads where it does from the words on that are left.
-use Prim.Native.Nat.{◌-◌, ◌≤◌}
+-- `row::aim` meets its contract: the row leads where it does by the words that are left.
 use mathlib.Core.Bool.{false}
-use mathlib.Core.Path.{◌≡◌}
-use lib.ListN.{length, drop}
-use Rattle.lines.specs.Words.{words}
-use Rattle.lines.specs.Names.{table}
+use Rattle.std.proofs.Common.{◌≡◌, length}
+use Rattle.lines.specs.Steps.{words_left}
+use Rattle.lines.specs.Tables.{names_of}
 use Rattle.rows.specs.Rows.{aim}
 use Rattle.rows.proofs.row.aim.Given as goal
 
-abbrev pub invariant-loop-i : goal.invariant-loop-i
-invariant-loop-i l =
-    (l.i ≤ length l.text)
-    × (aim (table l.text l.facts l.f) (table l.text l.goals l.g) l.l false (words (drop l.at l.text))
-    ≡ aim (table l.text l.facts l.f) (table l.text l.goals l.g) l.l l.ban (words (drop l.i l.text)))
+abbrev pub invariant-loop-word : goal.invariant-loop-word
+invariant-loop-word l =
+    aim (names_of l.facts) (names_of l.goals) l.l false (words_left l.fn.rest) ≡ aim (names_of l.facts) (names_of l.goals) l.l l.ban (words_left l.rest)
 
-abbrev pub decreases-loop-i : goal.decreases-loop-i
-decreases-loop-i l = length l.text - l.i
+abbrev pub decreases-loop-word : goal.decreases-loop-word
+decreases-loop-word l = length (words_left l.rest)

@@ -1,17 +1,12 @@
--- `row::names_it` meets its contract: by the name's spelling, and then by whether it is the first that is spelt so.
-use mathlib.Core.Path.{sym, ap, ◌∙◌}
-use Prim.Native.Nat.{ℕ}
-use lib.Dec.{eqb}
-use Rattle.rows.proofs.Aiming.{not_spelt, found_it}
+-- `row::names_it` meets its contract: a name that is spelt in another way is not the one that is looked up.
+use mathlib.Core.Path.{sym, ◌∙◌}
+use Rattle.lines.specs.Tables.{names_of}
+use Rattle.lines.proofs.Tabling.{names_counted}
+use Rattle.rows.proofs.Aiming.{not_spelt}
 use Rattle.rows.proofs.row.names_it.Goals as goal
-
-pub returns-then-is_same : goal.returns-then-is_same
-returns-then-is_same c =
-    let f = c.find.ensures in
-    c.eq.ensures ∙ found_it c.find.result _ _ f.within c.requires.1 ∙ ap (λ (k : ℕ). eqb k c.args.q) f.index
 
 pub returns-else-is_same : goal.returns-else-is_same
 returns-else-is_same c =
-    let a = c.args in
+    let n = c.args.goals in
     let other = sym c.is_same.ensures ∙ c.if-is_same.false in
-    c.if-is_same.false ∙ not_spelt a.text.now a.goals.now a.word.now a.g a.q c.requires.1 other
+    c.if-is_same.false ∙ not_spelt (names_of n) _ c.args.q (rw (names_counted n) c.requires) (rw (c.get.ensures, c.bytes.ensures) at other)

@@ -1,39 +1,20 @@
 -- `table::write_table` meets its contract: what was filled is the body.
+use mathlib.Core.Path.{ap, ◌∙◌}
+use Prim.Native.Nat.{ℕ, ◌^◌}
 use native.Mathlib.Omega.{arith}
+use Rattle.lines.specs.Tables.{count_of}
 use Rattle.rows.proofs.Celling.{Sized, rows_few, table_written}
 use Rattle.rows.proofs.table.write_table.Goals as goal
 
-pub overflow_mul-size : goal.overflow_mul-size
-overflow_mul-size c =
-    let sized : let a = c.args in Sized a.f a.g c.width-w.result =
-    let p = c.requires.named in
-    record { few_facts = p.few_facts; few_goals = p.few_goals; labels = c.width-w.ensures } in
-    omega (arith, rows_few (sized))
-
-pub overflow_add-size : goal.overflow_add-size
-overflow_add-size c =
-    let sized : let a = c.args in Sized a.f a.g c.width-w.result =
-    let p = c.requires.named in
-    record { few_facts = p.few_facts; few_goals = p.few_goals; labels = c.width-w.ensures } in
-    omega (arith, rows_few (sized), c.requires.named.few_goals)
-
-pub fill-requires : goal.fill-requires
-fill-requires c =
-    let sized : let a = c.args in Sized a.f a.g c.width-w.result =
-    let p = c.requires.named in
-    record { few_facts = p.few_facts; few_goals = p.few_goals; labels = c.width-w.ensures } in
-    record {
-      named = c.requires.named;
-      size_value = (rw c.width-w.ensures, omega (arith, rows_few (sized), c.requires.named.few_goals, c.requires.in_bounds));
-    }
-
-pub shape_of-body : goal.shape_of-body
-shape_of-body c = c.fill.ensures.as_long
+pub fill-requires-clause-size_value : goal.fill-requires-clause-size_value
+fill-requires-clause-size_value c =
+    let sized : Sized (count_of c.args.facts) (count_of c.args.goals) c.width-w.result =
+    record { few_facts = c.requires.few.0; few_goals = c.requires.few.1; labels = c.width-w.ensures ∙ ap (λ (k : ℕ). 2 ^ k) c.len-f.ensures } in
+    rw c.len-g.ensures (rw (c.width-w.ensures, c.len-f.ensures), omega (arith, rows_few (sized), c.requires.few.1, c.requires.in_bounds))
 
 pub returns : goal.returns
 returns c =
-    let sized : let a = c.args in Sized a.f a.g c.width-w.result =
-    let p = c.requires.named in
-    record { few_facts = p.few_facts; few_goals = p.few_goals; labels = c.width-w.ensures } in
-    let a = c.args in
-    table_written a.text.now a.facts.now a.goals.now (sized) c.requires.in_bounds c.fill.ensures
+    let sized : Sized (count_of c.args.facts) (count_of c.args.goals) c.width-w.result =
+    record { few_facts = c.requires.few.0; few_goals = c.requires.few.1; labels = c.width-w.ensures ∙ ap (λ (k : ℕ). 2 ^ k) c.len-f.ensures } in
+    rw c.len-g.ensures
+    (table_written c.args.text.now c.args.facts c.args.goals (sized) c.requires.in_bounds (rw c.len-g.ensures at c.fill.ensures))
