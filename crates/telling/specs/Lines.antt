@@ -1,16 +1,13 @@
 -- The texts that are told of a place.
-use Rattle.std.specs.Prelude.{ℕ, ◌+◌, ◌*◌, ◌/◌, cond, List, [], ◌∷◌, ◌++◌, eqb, leb, ltb, length, get_or}
+use Rattle.std.specs.Prelude.{ℕ, cond, List, [], ◌∷◌, ◌++◌, eqb, get_or}
 use Rattle.game.specs.declared.entry.Entry.{Entry}
 use Rattle.text.specs.Lines.{decimal, bytes}
-use Rattle.lines.specs.Names.{name}
+use Rattle.lines.specs.Tables.{names_of}
+use Rattle.lines.specs.declared.names.Names.{Names}
 
--- name k of a table, and nothing where it does not lie in the text
-abbrev pub named : List ℕ → List ℕ → ℕ → List ℕ
-named t spans k =
-    cond (leb (length spans / 2) k) []
-    (cond (ltb (get_or spans (2 * k + 1) 0) (get_or spans (2 * k) 0)) []
-    (cond (ltb (length t) (get_or spans (2 * k + 1) 0)) []
-    (name t spans k)))
+-- the name k, and nothing where there is none
+abbrev pub named : Names → ℕ → List ℕ
+named n k = get_or (names_of n) k []
 
 -- what stands between them in a line
 abbrev pub comma : List ℕ

@@ -3,5 +3,6 @@
 
 pub mod names;
 pub mod range;
+pub mod shown;
 pub mod spoil;
 pub mod told;

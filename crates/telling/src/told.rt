@@ -9,9 +9,10 @@ ghost use Rattle.telling.specs.Lines.{named, comma, place_text, moves_text, advi
 ghost use Rattle.telling.specs.Told.{told_entry, told_spoiler, told_action, told_actions, told_why, told_place};
 
 use crate::names::{put_name, put_place};
+use crate::shown::Shown;
 use crate::spoil::{entry_entered, worst};
 use game::entry::Entry;
-use job::layout::Layout;
+use lines::names::Names;
 use rules::answer::Value;
 use text::Line;
 
@@ -28,22 +29,22 @@ fn put_moves(line: &mut Line<'_>, n: u16)
 }
 
 // What the plan says at a place, by its entry.
-fn put_advice(line: &mut Line<'_>, text: &[u8], actions: &[usize], e: Entry)
+fn put_advice(line: &mut Line<'_>, actions: Names<'_>, e: Entry)
     ensures { Puts line.old
-        (advice_text (named text.now actions.now e.action) e)
+        (advice_text (named actions.entry e.action) e)
         line.new }
 {
     match (Value::try_from(e.value), e.named()) {
         (Ok(Value::Losing), _) => line.put_word(b"lost"),
         (_, None) => line.put_word(b"the goal is met"),
         (Ok(Value::Pending), Some(action)) => {
-            put_name(line, text, actions, usize::from(action));
+            put_name(line, actions, usize::from(action));
             line.put_word(b"; with luck ");
             put_moves(line, e.number);
             line.put_word(b" from safety");
         }
         (_, Some(action)) => {
-            put_name(line, text, actions, usize::from(action));
+            put_name(line, actions, usize::from(action));
             line.put_word(b"; safe, and at most ");
             put_moves(line, e.number);
             line.put_word(b" from the goal");
@@ -63,256 +64,135 @@ fn put_spoilt(line: &mut Line<'_>, value: u8)
 }
 
 // Why an action is not sure: it may lead to state t and goal state g, a place that has this value.
-fn put_outcome(
-    line: &mut Line<'_>,
-    text: &[u8],
-    states: &[usize],
-    actions: &[usize],
-    phrases: &[u8],
-    goals: &[usize],
-    action: usize,
-    t: usize,
-    g: usize,
-    value: u8,
-)
+fn put_outcome(line: &mut Line<'_>, shown: Shown<'_>, action: usize, t: usize, g: usize, value: u8)
     ensures { Puts line.old
-        (spoiler_line (named text.now actions.now action)
-        (place_text (named text.now states.now t) comma (named phrases.now goals.now g)) value)
+        (spoiler_line (named shown.entry.actions action)
+        (place_text (named shown.entry.states t) comma (named shown.entry.goals g)) value)
         line.new }
 {
     line.put_word(b"    ");
-    put_name(line, text, actions, action);
+    put_name(line, shown.actions, action);
     line.put_word(b" is not sure: it may lead to ");
-    put_place(line, text, states, phrases, goals, t, g, b", ");
+    put_place(line, shown.states, shown.goals, t, g, b", ");
     put_spoilt(line, value);
 }
 
 // The same by record k, seen from goal state q.
-fn put_spoiler(
-    line: &mut Line<'_>,
-    text: &[u8],
-    states: &[usize],
-    actions: &[usize],
-    phrases: &[u8],
-    goals: &[usize],
-    job: &[u8],
-    l: Layout,
-    plan: &[u8],
-    q: usize,
-    k: usize,
-)
-    requires fit { Fit job.now l }
-    requires job_in_bounds { 4 * places (said job.now) ≤ length plan.now }
-    requires q_lt_goals { (q < l.goals) × (k < l.records) }
+fn put_spoiler(line: &mut Line<'_>, shown: Shown<'_>, q: usize, k: usize)
+    requires fit { Fit shown.job.now shown.layout }
+    requires job_in_bounds { 4 * places (said shown.job.now) ≤ length shown.plan.now }
+    requires q_lt_goals { (q < shown.layout.goals) × (k < shown.layout.records) }
     ensures { Puts line.old
-        (told_spoiler (said job.now) plan.now q k
-        (named text.now states.now) (named text.now actions.now)
-        (named phrases.now goals.now))
+        (told_spoiler (said shown.entry.job.now) shown.entry.plan.now q k
+        (named shown.entry.states) (named shown.entry.actions)
+        (named shown.entry.goals))
         line.new }
 {
-    let m = job::ask::move_at(job, l, k);
+    let m = job::ask::move_at(shown.job, shown.layout, k);
     let t = usize::from(m.outcome);
-    let e = entry_entered(job, l, plan, q, t);
-    let g = job::ask::next_goal(job, l, q, t);
-    put_outcome(
-        line,
-        text,
-        states,
-        actions,
-        phrases,
-        goals,
-        usize::from(m.action),
-        t,
-        g,
-        e.value,
-    );
+    let e = entry_entered(shown.job, shown.layout, shown.plan, q, t);
+    let g = job::ask::next_goal(shown.job, shown.layout, q, t);
+    put_outcome(line, shown, usize::from(m.action), t, g, e.value);
 }
 
 // Why action a is not sure at the place of state s and goal state q, if something spoils it.
-fn put_action(
-    line: &mut Line<'_>,
-    text: &[u8],
-    states: &[usize],
-    actions: &[usize],
-    phrases: &[u8],
-    goals: &[usize],
-    job: &[u8],
-    l: Layout,
-    plan: &[u8],
-    s: usize,
-    q: usize,
-    a: usize,
-)
-    requires fit { Fit job.now l }
-    requires job_in_bounds { 4 * places (said job.now) ≤ length plan.now }
-    requires q_lt_goals { q < l.goals }
+fn put_action(line: &mut Line<'_>, shown: Shown<'_>, s: usize, q: usize, a: usize)
+    requires fit { Fit shown.job.now shown.layout }
+    requires job_in_bounds { 4 * places (said shown.job.now) ≤ length shown.plan.now }
+    requires q_lt_goals { q < shown.layout.goals }
     ensures { Puts line.old
-        (told_action (said job.now) plan.now s q
-        (named text.now states.now) (named text.now actions.now)
-        (named phrases.now goals.now) a)
+        (told_action (said shown.entry.job.now) shown.entry.plan.now s q
+        (named shown.entry.states) (named shown.entry.actions)
+        (named shown.entry.goals) a)
         line.new }
 {
-    if let Some(k) = worst(job, l, plan, s, q, a) {
-        put_spoiler(
-            line, text, states, actions, phrases, goals, job, l, plan, q, k,
-        );
+    if let Some(k) = worst(shown.job, shown.layout, shown.plan, s, q, a) {
+        put_spoiler(line, shown, q, k);
     }
 }
 
 // Why each action is not sure that something spoils.
-fn put_why(
-    line: &mut Line<'_>,
-    text: &[u8],
-    states: &[usize],
-    actions: &[usize],
-    phrases: &[u8],
-    goals: &[usize],
-    job: &[u8],
-    l: Layout,
-    plan: &[u8],
-    s: usize,
-    q: usize,
-)
-    requires fit { Fit job.now l }
-    requires job_in_bounds { 4 * places (said job.now) ≤ length plan.now }
-    requires q_lt_goals { q < l.goals }
+fn put_why(line: &mut Line<'_>, shown: Shown<'_>, s: usize, q: usize)
+    requires fit { Fit shown.job.now shown.layout }
+    requires job_in_bounds { 4 * places (said shown.job.now) ≤ length shown.plan.now }
+    requires q_lt_goals { q < shown.layout.goals }
     ensures { Puts line.old
-        (told_actions (said job.now) plan.now s q
-        (named text.now states.now) (named text.now actions.now)
-        (named phrases.now goals.now) l.actions)
+        (told_actions (said shown.entry.job.now) shown.entry.plan.now s q
+        (named shown.entry.states) (named shown.entry.actions)
+        (named shown.entry.goals) shown.entry.layout.actions)
         line.new }
 {
-    for a in 0..usize::from(l.actions) {
-        put_action(
-            line, text, states, actions, phrases, goals, job, l, plan, s, q, a,
-        );
+    for a in 0..usize::from(shown.layout.actions) {
+        put_action(line, shown, s, q, a);
     }
 }
 
 // What the plan says at a place.
-fn put_head(
-    line: &mut Line<'_>,
-    text: &[u8],
-    states: &[usize],
-    actions: &[usize],
-    phrases: &[u8],
-    goals: &[usize],
-    s: usize,
-    q: usize,
-    e: Entry,
-)
+fn put_head(line: &mut Line<'_>, shown: Shown<'_>, s: usize, q: usize, e: Entry)
     ensures { Puts line.old
-        (told_entry s q e (named text.now states.now) (named text.now actions.now)
-        (named phrases.now goals.now))
+        (told_entry s q e (named shown.entry.states) (named shown.entry.actions)
+        (named shown.entry.goals))
         line.new }
 {
-    put_place(line, text, states, phrases, goals, s, q, b", ");
+    put_place(line, shown.states, shown.goals, s, q, b", ");
     line.put_word(b": ");
-    put_advice(line, text, actions, e);
+    put_advice(line, shown.actions, e);
     line.put(b'\n');
 }
 
 // What the plan says at place i: its own entry there.
-fn tell_head(
-    line: &mut Line<'_>,
-    text: &[u8],
-    states: &[usize],
-    actions: &[usize],
-    phrases: &[u8],
-    goals: &[usize],
-    l: Layout,
-    plan: &[u8],
-    i: usize,
-)
-    requires { (1 ≤ l.goals) × (4 * i + 4 ≤ length plan.now) }
+fn tell_head(line: &mut Line<'_>, shown: Shown<'_>, i: usize)
+    requires { (1 ≤ shown.layout.goals) × (4 * i + 4 ≤ length shown.plan.now) }
     ensures { Puts line.old
-        (told_entry (i / l.goals) (i % l.goals) (entry plan.now i)
-        (named text.now states.now) (named text.now actions.now)
-        (named phrases.now goals.now))
+        (told_entry (i / shown.entry.layout.goals) (i % shown.entry.layout.goals) (entry shown.entry.plan.now i)
+        (named shown.entry.states) (named shown.entry.actions)
+        (named shown.entry.goals))
         line.new }
 {
-    let own = rules::entry::read_entry(plan, i);
+    let own = rules::entry::read_entry(shown.plan, i);
     put_head(
         line,
-        text,
-        states,
-        actions,
-        phrases,
-        goals,
-        i / l.goals,
-        i % l.goals,
+        shown,
+        i / shown.layout.goals,
+        i % shown.layout.goals,
         own,
     );
 }
 
 // Why place i is not winning: what spoils each action, or that all is lost.
-fn tell_why(
-    line: &mut Line<'_>,
-    text: &[u8],
-    states: &[usize],
-    actions: &[usize],
-    phrases: &[u8],
-    goals: &[usize],
-    job: &[u8],
-    l: Layout,
-    plan: &[u8],
-    i: usize,
-)
-    requires fit { Fit job.now l }
-    requires job_in_bounds { 4 * places (said job.now) ≤ length plan.now }
-    requires i_in_bounds { 4 * i + 4 ≤ length plan.now }
+fn tell_why(line: &mut Line<'_>, shown: Shown<'_>, i: usize)
+    requires fit { Fit shown.job.now shown.layout }
+    requires job_in_bounds { 4 * places (said shown.job.now) ≤ length shown.plan.now }
+    requires i_in_bounds { 4 * i + 4 ≤ length shown.plan.now }
     ensures { Puts line.old
-        (told_why (said job.now) plan.now (i / l.goals) (i % l.goals) (entry plan.now i)
-        (named text.now states.now) (named text.now actions.now)
-        (named phrases.now goals.now))
+        (told_why (said shown.entry.job.now) shown.entry.plan.now (i / shown.entry.layout.goals) (i % shown.entry.layout.goals) (entry shown.entry.plan.now i)
+        (named shown.entry.states) (named shown.entry.actions)
+        (named shown.entry.goals))
         line.new }
 {
-    let e = rules::entry::read_entry(plan, i);
+    let e = rules::entry::read_entry(shown.plan, i);
     match Value::try_from(e.value) {
         Ok(Value::Losing) => {
             line.put_word(b"    nothing that is open here can lead to the goal\n")
         }
-        Ok(Value::Pending) => put_why(
-            line,
-            text,
-            states,
-            actions,
-            phrases,
-            goals,
-            job,
-            l,
-            plan,
-            i / l.goals,
-            i % l.goals,
-        ),
+        Ok(Value::Pending) => put_why(line, shown, i / shown.layout.goals, i % shown.layout.goals),
         _ => {}
     }
 }
 
 // All that is told of place i.
-pub fn tell_place(
-    line: &mut Line<'_>,
-    text: &[u8],
-    states: &[usize],
-    actions: &[usize],
-    phrases: &[u8],
-    goals: &[usize],
-    job: &[u8],
-    l: Layout,
-    plan: &[u8],
-    i: usize,
-)
-    requires fit { Fit job.now l }
-    requires job_in_bounds { 4 * places (said job.now) ≤ length plan.now }
-    requires i_in_bounds { 4 * i + 4 ≤ length plan.now }
+pub fn tell_place(line: &mut Line<'_>, shown: Shown<'_>, i: usize)
+    requires fit { Fit shown.job.now shown.layout }
+    requires job_in_bounds { 4 * places (said shown.job.now) ≤ length shown.plan.now }
+    requires i_in_bounds { 4 * i + 4 ≤ length shown.plan.now }
     ensures { Puts line.old
-        (told_place (said job.now) plan.now i
-        (named text.now states.now) (named text.now actions.now)
-        (named phrases.now goals.now))
+        (told_place (said shown.entry.job.now) shown.entry.plan.now i
+        (named shown.entry.states) (named shown.entry.actions)
+        (named shown.entry.goals))
         line.new }
 {
-    tell_head(line, text, states, actions, phrases, goals, l, plan, i);
-    tell_why(line, text, states, actions, phrases, goals, job, l, plan, i);
+    tell_head(line, shown, i);
+    tell_why(line, shown, i);
 }
 
 // What can be said of the whole, by the value of the start.

@@ -9,7 +9,7 @@ use Rattle.telling.proofs.told.put_action.Goals as goal
 pub put_spoiler-requires-clause-q_lt_goals : goal.put_spoiler-requires-clause-q_lt_goals
 put_spoiler-requires-clause-q_lt_goals c =
     let x = c.args in
-    (c.requires.q_lt_goals, rw (records_said c.requires.fit) (worst_spoils (said x.job.now) x.plan.now x.s x.q x.a _ (sym c.in-Some.is ∙ c.worst.ensures)).0)
+    (c.requires.q_lt_goals, rw (records_said c.requires.fit) (worst_spoils (said x.shown.job.now) x.shown.plan.now x.s x.q x.a _ (sym c.in-Some.is ∙ c.worst.ensures)).0)
 
 pub returns-in-Some : goal.returns-in-Some
 returns-in-Some c = rw (← c.worst.ensures, c.in-Some.is) c.put_spoiler.ensures

@@ -12,5 +12,5 @@ loop-a-init c = puts_none _
 pub loop-a-preserved : goal.loop-a-preserved
 loop-a-preserved c =
     let x = c.args in
-    puts_next (told_action (said x.job.now) x.plan.now x.s x.q (named x.text.now x.states.now)
-    (named x.text.now x.actions.now) (named x.phrases.now x.goals.now)) c.loop-a.a c.loop-a.invariant c.put_action.ensures
+    puts_next (told_action (said x.shown.job.now) x.shown.plan.now x.s x.q (named x.shown.states)
+    (named x.shown.actions) (named x.shown.goals)) c.loop-a.a c.loop-a.invariant c.put_action.ensures

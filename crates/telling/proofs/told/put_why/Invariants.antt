@@ -7,4 +7,4 @@ use Rattle.telling.proofs.told.put_why.Given as goal
 
 abbrev pub invariant-loop-a : goal.invariant-loop-a
 invariant-loop-a l =
-    Puts l.initial.line (told_actions (said l.job) l.plan l.s l.q (named l.text l.states) (named l.text l.actions) (named l.phrases l.goals) l.a) l.line
+    Puts l.initial.line (told_actions (said l.shown.job.now) l.shown.plan.now l.s l.q (named l.shown.states) (named l.shown.actions) (named l.shown.goals) l.a) l.line

@@ -1,0 +1,14 @@
+// What is shown: a job, a plan, and the names by which these are told.
+use job::layout::Layout;
+use lines::names::Names;
+
+// A job with its layout, a plan, and the names of the job's states, actions and goal states. Those of the goal states may stand in a text of their own.
+#[derive(Clone, Copy, Debug)]
+pub struct Shown<'a> {
+    pub job: &'a [u8],
+    pub layout: Layout,
+    pub plan: &'a [u8],
+    pub states: Names<'a>,
+    pub actions: Names<'a>,
+    pub goals: Names<'a>,
+}
