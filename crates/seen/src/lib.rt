@@ -1,10 +1,12 @@
 // The goal states of a goal in clauses, told in words: what each clause has seen so far.
 #![tactic(auto)]
 
-ghost use Rattle.std.specs.Prelude.{◌≤◌, length, IfSome};
-ghost use Rattle.seen.specs.Kept.{Inside};
+ghost use Rattle.std.specs.Prelude.{◌≤◌, length};
+ghost use Rattle.std.specs.List.{All};
+ghost use Rattle.seen.specs.Kept.{Grown};
 
-use lines::word::{Word, is_same, next_line, next_word};
+use lines::line::{Lines, Words};
+use lines::names::Span;
 use text::Line;
 
 // The word by which a line says a clause.
@@ -16,31 +18,35 @@ enum Kind {
     Before,
 }
 
-// A clause of a text: its kind, and where its two facts stand, or its one fact twice.
-#[derive(Clone, Copy, Debug, PartialEq, Eq)]
-struct Clause {
+// A clause of a text: its kind and its two facts, or its one fact twice.
+#[derive(Clone, Copy, Debug)]
+struct Clause<'a> {
     kind: Kind,
-    one: Word,
-    other: Word,
+    one: &'a [u8],
+    other: &'a [u8],
+}
+
+// The next word of a line, or no bytes where the line is at its end.
+fn next_or_none<'a>(line: &mut Words<'a>) -> &'a [u8] {
+    match line.next() {
+        Some(word) => word.bytes(),
+        None => b"",
+    }
 }
 
 // The clause that a line says, if it says one.
-fn clause_at(text: &[u8], at: usize) -> Option<Clause>
-    requires { at ≤ length text.now }
-    ensures { IfSome result (λ c. Inside (length text.now) c.one.start c.one.end c.other.start c.other.end) }
-{
-    let first = next_word(text, at);
-    let second = next_word(text, first.end);
-    let third = next_word(text, second.end);
-    let fourth = next_word(text, third.end);
-    let key = &text[first.start..first.end];
-    let (kind, one, other) = if is_same(key, b"eventually") {
+fn clause_of(mut line: Words<'_>) -> Option<Clause<'_>> {
+    let first = next_or_none(&mut line);
+    let second = next_or_none(&mut line);
+    let third = next_or_none(&mut line);
+    let fourth = next_or_none(&mut line);
+    let (kind, one, other) = if first == b"eventually".as_slice() {
         (Kind::Eventually, second, second)
-    } else if is_same(key, b"never") {
+    } else if first == b"never".as_slice() {
         (Kind::Never, second, second)
-    } else if is_same(key, b"whenever") {
+    } else if first == b"whenever".as_slice() {
         (Kind::Whenever, second, fourth)
-    } else if is_same(&text[second.start..second.end], b"before") {
+    } else if second == b"before".as_slice() {
         (Kind::Before, first, third)
     } else {
         return None;
@@ -56,25 +62,27 @@ fn one_more(n: usize) -> usize {
 // How many clauses a text has.
 pub fn count(text: &[u8]) -> usize {
     let mut n: usize = 0;
-    let mut at: usize = 0;
-    while at <= text.len() {
-        if clause_at(text, at).is_some() {
+    for line in Lines::of(text) {
+        if clause_of(line).is_some() {
             n = one_more(n);
         }
-        at = next_line(text, at);
     }
     n
 }
 
 // A word before a fact, the fact, and a word after it.
-fn put_around(line: &mut Line<'_>, before: &[u8], fact: &[u8], after: &[u8]) {
+fn put_around(line: &mut Line<'_>, before: &[u8], fact: &[u8], after: &[u8])
+    ensures { Grown line.old line.new }
+{
     line.put_word(before);
     line.put_word(fact);
     line.put_word(after);
 }
 
 // What a clause has seen so far, by its goal state.
-fn put_seen(line: &mut Line<'_>, kind: Kind, one: &[u8], other: &[u8], q: usize) {
+fn put_seen(line: &mut Line<'_>, kind: Kind, one: &[u8], other: &[u8], q: usize)
+    ensures { Grown line.old line.new }
+{
     match (kind, q) {
         (Kind::Eventually, 0) => put_around(line, b"not yet ", one, b""),
         (Kind::Eventually, _) => put_around(line, b"", one, b" seen"),
@@ -99,43 +107,46 @@ fn goal_of_clause(q: usize, n: usize, before: usize) -> Option<usize> {
 }
 
 // What a clause has seen so far in its goal state q, after a comma where it is not the first in the line from a position on.
-fn put_clause(line: &mut Line<'_>, first: usize, text: &[u8], c: Clause, q: usize)
-    requires { Inside (length text.now) c.one.start c.one.end c.other.start c.other.end }
+fn put_clause(line: &mut Line<'_>, first: usize, c: Clause<'_>, q: usize)
+    ensures { Grown line.old line.new }
 {
     if line.at != first {
         line.put_word(b", ");
     }
-    let one = &text[c.one.start..c.one.end];
-    let other = &text[c.other.start..c.other.end];
-    put_seen(line, c.kind, one, other, q);
+    put_seen(line, c.kind, c.one, c.other, q);
 }
 
 // The goal state q of the n clauses of a text.
-pub fn put_goal(line: &mut Line<'_>, text: &[u8], n: usize, q: usize) {
+pub fn put_goal(line: &mut Line<'_>, text: &[u8], n: usize, q: usize)
+    ensures { Grown line.old line.new }
+{
     let first = line.at;
     let mut k: usize = 0;
-    let mut at: usize = 0;
-    while at <= text.len() {
-        if let Some(c) = clause_at(text, at) {
+    for words in Lines::of(text) {
+        if let Some(c) = clause_of(words) {
             if let Some(own) = goal_of_clause(q, n, k) {
-                put_clause(line, first, text, c, own);
+                put_clause(line, first, c, own);
             }
             k = one_more(k);
         }
-        at = next_line(text, at);
     }
 }
 
-// Tells each goal state of the clauses of a text, and keeps in a table where it stands.
-pub fn list(phrases: &mut [u8], goals: &mut [usize], text: &[u8]) {
+// Tells each goal state of the clauses of a text, and keeps where it stands.
+pub fn list(phrases: &mut [u8], goals: &mut [Span], text: &[u8])
+    ensures { All (λ s. (s.start ≤ s.end) × (s.end ≤ length phrases.new)) goals.new }
+{
     let n = count(text);
     let mut line = Line {
         bytes: phrases,
         at: 0,
     };
-    for q in 0..goals.len() / 2 {
-        goals[2 * q] = line.at;
+    for q in 0..goals.len() {
+        let start = line.at;
         put_goal(&mut line, text, n, q);
-        goals[2 * q + 1] = line.at;
+        goals[q] = Span {
+            start,
+            end: line.at,
+        };
     }
 }

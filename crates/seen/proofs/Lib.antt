@@ -1,0 +1,2 @@
+-- What the proofs of seen cite.
+pub mod Growing
