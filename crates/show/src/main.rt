@@ -1,19 +1,16 @@
 // A plan shown: a job in words by the name of its file, and on standard output its plan with names, or as a graph for Graphviz.
 #![tactic(auto)]
 
-ghost use Rattle.std.specs.Prelude.{◌*◌, ◌≤◌, ◌<◌, length};
+ghost use Rattle.std.specs.Prelude.{◌*◌, ◌≤◌, ◌<◌, length, IfOk};
 ghost use Rattle.rules.specs.Bytes.{said};
 ghost use Rattle.rules.specs.Job.{places};
-ghost use Rattle.io.specs.Counts.{IsPrefixLen};
 ghost use Rattle.job.specs.Layout.{Fit};
 
-use job::layout::{Layout, Reading};
-use rules::answer::Planned;
-use std::env::{Env, FillError};
-use std::io::Read;
-use std::rt::Files;
-use std::{fs, str};
-use words::turn::Turned;
+use drawing::reach::Moves;
+use job::layout::Layout;
+use programs::files::Program;
+use rules::answer::Refusal;
+use text::Line;
 
 // The longest text, the longest job that is written, the longest plan, and more than is told of a place.
 const TEXT_ROOM: usize = 262144;
@@ -27,8 +24,19 @@ const OUT_ROOM: usize = 16384;
 // As much as cabinet-words tells of faults.
 const TOLD_ROOM: usize = 65536;
 
-// Room for the longest name of a file, 4,095 bytes, and one byte more.
-const PATH_ROOM: usize = 4096;
+// How a plan is shown: told in words, or drawn as a graph.
+#[derive(Clone, Copy, Debug, PartialEq, Eq)]
+enum Showing {
+    Told,
+    Drawn,
+}
+
+// Writes what stands in a line to standard output.
+fn write_line(rt: &impl Print, line: &Line<'_>) {
+    if let Some(text) = line.bytes.get(..line.at) {
+        let _ = rt.write_all(text);
+    }
+}
 
 // The graph's edge from place i by record k, if it is a move from there.
 fn draw_move(
@@ -45,10 +53,12 @@ fn draw_move(
     requires k_lt_records { k < l.records }
 {
     let mut out = [0u8; 512];
-    let n = drawing::graph::put_move(&mut out, text, actions, job, l, plan, i, k);
-    if 0 < n {
-        write_front(rt, &out, n);
-    }
+    let mut line = Line {
+        bytes: &mut out,
+        at: 0,
+    };
+    drawing::graph::put_move(&mut line, text, actions, job, l, plan, i, k);
+    write_line(rt, &line);
 }
 
 // The graph's edges from place i.
@@ -64,23 +74,9 @@ fn draw_moves(
     requires { Fit job.now l }
 {
     let r = telling::range::of_state(job, l, i / l.goals);
-    let to = r.to;
-    let mut k = r.from;
-    while k < to {
+    for k in r.from..r.to {
         draw_move(rt, text, actions, job, l, plan, i, k);
-        k += 1;
     }
-}
-
-// Writes the first n bytes to standard output, or to standard error.
-fn write_to(file: &impl Print, out: &[u8], n: usize) {
-    if n <= out.len() {
-        let _ = file.write_all(&out[..n]);
-    }
-}
-
-fn write_front(rt: &impl Print, out: &[u8], n: usize) {
-    write_to(rt, out, n);
 }
 
 // Place i as a node of the graph, with the edges from it.
@@ -100,8 +96,12 @@ fn draw_place(
     requires job_in_bounds { 4 * places (said job.now) ≤ length plan.now }
 {
     let mut out = [0u8; 1024];
-    let n = drawing::graph::put_node(&mut out, text, states, phrases, goals, l, plan, i);
-    write_front(rt, &out, n);
+    let mut line = Line {
+        bytes: &mut out,
+        at: 0,
+    };
+    drawing::graph::put_node(&mut line, text, states, phrases, goals, l, plan, i);
+    write_line(rt, &line);
     draw_moves(rt, text, actions, job, l, plan, i);
 }
 
@@ -125,98 +125,73 @@ fn tell_place(
         return;
     }
     let mut out = [0u8; OUT_ROOM];
-    let n = telling::told::tell_place(
-        &mut out, text, states, actions, phrases, goals, job, l, plan, i,
+    let mut line = Line {
+        bytes: &mut out,
+        at: 0,
+    };
+    telling::told::tell_place(
+        &mut line, text, states, actions, phrases, goals, job, l, plan, i,
     );
-    write_front(rt, &out, n);
+    write_line(rt, &line);
 }
 
-fn show_place(
-    rt: &impl Print,
-    text: &[u8],
-    states: &[usize],
-    actions: &[usize],
-    phrases: &[u8],
-    goals: &[usize],
-    job: &[u8],
-    l: Layout,
-    plan: &[u8],
-    i: usize,
-    dot: bool,
-)
-    requires fit { Fit job.now l }
-    requires job_in_bounds { 4 * places (said job.now) ≤ length plan.now }
-{
-    if dot {
-        draw_place(rt, text, states, actions, phrases, goals, job, l, plan, i);
-    } else {
-        tell_place(rt, text, states, actions, phrases, goals, job, l, plan, i);
+impl Showing {
+    // The moves by which a place is reached that is shown.
+    fn moves(self) -> Moves {
+        match self {
+            Showing::Told => Moves::Own,
+            Showing::Drawn => Moves::All,
+        }
     }
-}
 
-// The number of the place k of a queue.
-fn nth(queue: &[u16], k: usize) -> usize {
-    if k < queue.len() {
-        return queue[k] as usize;
+    // What comes before the places: what can be said of the whole, or the beginning of the graph.
+    fn begin(self, rt: &impl Print, plan: &[u8], start: usize) {
+        let mut out = [0u8; 512];
+        let mut line = Line {
+            bytes: &mut out,
+            at: 0,
+        };
+        match self {
+            Showing::Told => {
+                if start < plan.len() / 4 {
+                    telling::told::put_outlook(&mut line, plan[4 * start]);
+                }
+            }
+            Showing::Drawn => drawing::graph::put_begin(&mut line, start),
+        }
+        write_line(rt, &line);
     }
-    0
-}
 
-// Each place of a queue's first n.
-fn show_places(
-    rt: &impl Print,
-    text: &[u8],
-    states: &[usize],
-    actions: &[usize],
-    phrases: &[u8],
-    goals: &[usize],
-    job: &[u8],
-    l: Layout,
-    plan: &[u8],
-    queue: &[u16],
-    n: usize,
-    dot: bool,
-)
-    requires fit { Fit job.now l }
-    requires job_in_bounds { 4 * places (said job.now) ≤ length plan.now }
-{
-    let mut k: usize = 0;
-    while k < n {
-        show_place(
-            rt,
-            text,
-            states,
-            actions,
-            phrases,
-            goals,
-            job,
-            l,
-            plan,
-            nth(queue, k),
-            dot,
-        );
-        k += 1;
+    // Place i.
+    fn place(
+        self,
+        rt: &impl Print,
+        text: &[u8],
+        states: &[usize],
+        actions: &[usize],
+        phrases: &[u8],
+        goals: &[usize],
+        job: &[u8],
+        l: Layout,
+        plan: &[u8],
+        i: usize,
+    )
+        requires fit { Fit job.now l }
+        requires job_in_bounds { 4 * places (said job.now) ≤ length plan.now }
+    {
+        match self {
+            Showing::Told => tell_place(rt, text, states, actions, phrases, goals, job, l, plan, i),
+            Showing::Drawn => draw_place(
+                rt, text, states, actions, phrases, goals, job, l, plan, i,
+            ),
+        }
     }
-}
 
-// What comes before the places: what can be said of the whole, or the beginning of the graph.
-fn begin(rt: &impl Print, plan: &[u8], start: usize, dot: bool) {
-    let mut out = [0u8; 512];
-    if dot {
-        let n = drawing::graph::put_begin(&mut out, start);
-        write_front(rt, &out, n);
-        return;
-    }
-    if start < plan.len() / 4 {
-        let n = telling::told::put_outlook(&mut out, plan[4 * start]);
-        write_front(rt, &out, n);
-    }
-}
-
-// What comes after the places.
-fn end(rt: &impl Print, dot: bool) {
-    if dot {
-        let _ = rt.write_all(b"}\n");
+    // What comes after the places.
+    fn end(self, rt: &impl Print) {
+        if self == Showing::Drawn {
+            let _ = rt.write_all(b"}\n");
+        }
     }
 }
 
@@ -231,23 +206,34 @@ fn show_plan(
     job: &[u8],
     l: Layout,
     plan: &[u8],
-    dot: bool,
+    showing: Showing,
 )
     requires fit { Fit job.now l }
     requires job_in_bounds { 4 * places (said job.now) ≤ length plan.now }
 {
     let mut queue = [0u16; drawing::reach::ROOM];
     let mut marks = [0u8; drawing::reach::ROOM];
-    let n = drawing::reach::reach(&mut queue, &mut marks, job, l, plan, dot);
-    begin(rt, plan, nth(&queue, 0), dot);
-    show_places(
-        rt, text, states, actions, phrases, goals, job, l, plan, &queue, n, dot,
-    );
-    end(rt, dot);
+    let n = drawing::reach::reach(&mut queue, &mut marks, job, l, plan, showing.moves());
+    showing.begin(rt, plan, usize::from(queue[0]));
+    for &i in &queue[..n] {
+        showing.place(
+            rt,
+            text,
+            states,
+            actions,
+            phrases,
+            goals,
+            job,
+            l,
+            plan,
+            usize::from(i),
+        );
+    }
+    showing.end(rt);
 }
 
 // The same with the names that the text lists, or where its goal is made of clauses, with what these have seen.
-fn show_named(rt: &impl Print, text: &[u8], job: &[u8], l: Layout, plan: &[u8], dot: bool)
+fn show_named(rt: &impl Print, text: &[u8], job: &[u8], l: Layout, plan: &[u8], showing: Showing)
     requires fit { Fit job.now l }
     requires job_in_bounds { 4 * places (said job.now) ≤ length plan.now }
 {
@@ -257,169 +243,88 @@ fn show_named(rt: &impl Print, text: &[u8], job: &[u8], l: Layout, plan: &[u8], 
     lines::names::list(&mut actions, text, b"actions");
     let mut goals = [0usize; 64];
     if 0 < lines::names::list(&mut goals, text, b"goal-states") {
-        show_plan(rt, text, &states, &actions, text, &goals, job, l, plan, dot);
+        show_plan(
+            rt, text, &states, &actions, text, &goals, job, l, plan, showing,
+        );
         return;
     }
     let mut phrases = [0u8; 8192];
     seen::list(&mut phrases, &mut goals, text);
     show_plan(
-        rt, text, &states, &actions, &phrases, &goals, job, l, plan, dot,
+        rt, text, &states, &actions, &phrases, &goals, job, l, plan, showing,
     );
 }
 
-// Plans a job, and shows its plan.
-fn show(rt: &impl Print, err: &impl Print, text: &[u8], job: &[u8], dot: bool) {
-    let mut plan = [0u8; PLAN_ROOM];
-    match labelling::plan::plan(job, &mut plan) {
-        Planned::Refused(_) => {
-            let _ = err.write_all(b"cabinet-show: the job is refused\n");
-        }
-        Planned::Done => match job::accept::read(job) {
-            Reading::Refused(_) => {
-                let _ = err.write_all(b"cabinet-show: the job is refused\n");
-            }
-            Reading::Job(l) => {
-                show_named(rt, text, job, l, &plan, dot);
-            }
-        },
-    }
+// Plans a job that is read.
+fn plan_job(job: &[u8], plan: &mut [u8]) -> Result<Layout, Refusal>
+    ensures { IfOk result (λ l. Fit job.now l × (4 * places (said job.now) ≤ length plan.new)) }
+{
+    labelling::plan::plan(job, plan)?;
+    job::accept::read(job)
 }
 
-// The same of the job in the first n bytes.
-fn show_front(rt: &impl Print, err: &impl Print, text: &[u8], job: &[u8], n: usize, dot: bool) {
-    if n <= job.len() {
-        show(rt, err, text, &job[..n], dot);
+// Plans a job, and shows its plan.
+fn show(rt: &impl Print, err: &impl Print, text: &[u8], job: &[u8], showing: Showing) {
+    let mut plan = [0u8; PLAN_ROOM];
+    match plan_job(job, &mut plan) {
+        Ok(l) => show_named(rt, text, job, l, &plan, showing),
+        Err(_) => {
+            let _ = err.write_all(b"cabinet-show: the job is refused\n");
+        }
     }
 }
 
 // Turns a text into a job and shows its plan, or tells the text's faults on standard error.
-fn show_text(rt: &impl Print, err: &impl Print, text: &[u8], dot: bool) {
+fn show_text(rt: &impl Print, err: &impl Print, text: &[u8], showing: Showing) {
     let mut job = [0u8; JOB_ROOM];
     let mut told = [0u8; TOLD_ROOM];
     match words::turn::turn(&mut job, &mut told, text) {
-        Turned::Faults(n) => {
-            write_to(err, &told, n);
+        Ok(n) => {
+            if let Some(job) = job.get(..n) {
+                show(rt, err, text, job, showing);
+            }
         }
-        Turned::Job(n) => {
-            show_front(rt, err, text, &job, n, dot);
+        Err(faults) => {
+            if let Some(told) = told.get(..faults.told) {
+                let _ = err.write_all(told);
+            }
         }
     }
-}
-
-// Reads until the buffer is full, the input ends or a read fails, and answers how many bytes stand at its beginning.
-fn read_full<R: Read>(input: &mut R, buffer: &mut [u8]) -> usize
-    ensures { IsPrefixLen result buffer.new }
-{
-    let mut done: usize = 0;
-    while done < buffer.len() {
-        let Ok(n) = input.read(&mut buffer[done..]) else {
-            return done;
-        };
-        if n == 0 {
-            return done;
-        }
-        done += n;
-    }
-    done
-}
-
-// Whether there is an argument i, of whatever length.
-fn has_arg(rt: &HostRuntime, i: usize) -> bool {
-    let mut first = [0u8; 1];
-    match rt.arg(i, &mut first) {
-        Ok(_) => true,
-        Err(FillError::TooLong) => true,
-        Err(FillError::NotPresent) => false,
-    }
-}
-
-// Puts argument i at the beginning of the buffer, and answers how long it is: 0 where the buffer has no room for it.
-fn put_arg(rt: &HostRuntime, i: usize, path: &mut [u8]) -> usize
-    ensures { IsPrefixLen result path.new }
-{
-    let Ok(k) = rt.arg(i, path) else {
-        return 0;
-    };
-    k
-}
-
-// Says on standard error what has gone wrong with the file that argument i names.
-fn say_why(rt: &HostRuntime, err: &impl Print, i: usize, error: &[u8]) {
-    let mut path = [0u8; PATH_ROOM];
-    let k = put_arg(rt, i, &mut path);
-    let _ = err.write_all(b"cabinet-show: ");
-    let _ = err.write_all(&path[..k]);
-    let _ = err.write_all(error);
-}
-
-// Opens the file of this name, which std takes as UTF-8.
-fn open(rt: &HostRuntime, path: &[u8]) -> Option<fs::File> {
-    let Ok(name) = str::from_utf8(path) else {
-        return None;
-    };
-    let mut how = fs::OpenOptions::new();
-    how.read(true);
-    let Ok(file) = rt.open_file(&how, name) else {
-        return None;
-    };
-    Some(file)
-}
-
-// Opens the file that argument i names, or says that it can not be.
-fn open_named(rt: &HostRuntime, err: &impl Print, i: usize) -> Option<fs::File> {
-    let mut path = [0u8; PATH_ROOM];
-    let k = put_arg(rt, i, &mut path);
-    let Some(file) = open(rt, &path[..k]) else {
-        say_why(rt, err, i, b": cannot be opened\n");
-        return None;
-    };
-    Some(file)
-}
-
-// Whether the file was read to its end without a fault; it is closed.
-fn was_read<F: Read + Drop>(rt: &HostRuntime, err: &impl Print, mut file: F, i: usize) -> bool {
-    let mut more = [0u8; 1];
-    let Ok(got) = file.read(&mut more) else {
-        say_why(rt, err, i, b": cannot be read\n");
-        return false;
-    };
-    if 0 < got {
-        say_why(rt, err, i, b": a text has at most 262144 bytes\n");
-        return false;
-    }
-    true
 }
 
 // Shows the job in the file that argument i names.
-fn show_file(rt: &HostRuntime, err: &impl Print, i: usize, dot: bool) {
-    let Some(mut file) = open_named(rt, err, i) else {
+fn show_file<E: Print>(program: &Program<'_, E>, i: usize, showing: Showing) {
+    let Some(mut file) = program.open(i) else {
         return;
     };
     let mut text = [0u8; TEXT_ROOM];
-    let n = read_full(&mut file, &mut text);
-    if was_read(rt, err, file, i) {
-        show_text(rt, err, &text[..n], dot);
+    let n = programs::input::read_up_to(&mut file, &mut text);
+    match program.read_more(file, i) {
+        Some(0) => show_text(program.rt, program.err, &text[..n], showing),
+        Some(_) => program.say_why(i, b": a text has at most 262144 bytes\n"),
+        None => {}
     }
 }
 
-// Whether argument 1 asks for a graph.
-fn asks_dot(rt: &HostRuntime) -> bool {
-    let mut word = [0u8; PATH_ROOM];
-    let k = put_arg(rt, 1, &mut word);
-    lines::word::is_same(&word[..k], b"--dot")
+// Whether argument 1 asks for a graph: a longer one, for which there is no room, does not.
+fn asks_graph<E: Print>(program: &Program<'_, E>) -> bool {
+    let mut word = [0u8; 16];
+    let k = program.put_arg(1, &mut word);
+    &word[..k] == b"--dot".as_slice()
 }
 
 fn main(rt: HostRuntime) {
     let err = rt.stderr();
-    if has_arg(&rt, 1) && !has_arg(&rt, 2) {
-        show_file(&rt, &err, 1, false);
-        return;
+    let program = Program {
+        rt: &rt,
+        err: &err,
+        name: b"cabinet-show: ",
+    };
+    if program.has_arg(1) && !program.has_arg(2) {
+        show_file(&program, 1, Showing::Told);
+    } else if program.has_arg(2) && !program.has_arg(3) && asks_graph(&program) {
+        show_file(&program, 2, Showing::Drawn);
+    } else {
+        let _ = err.write_all(b"usage: cabinet-show [--dot] FILE\n");
     }
-    if has_arg(&rt, 2) && !has_arg(&rt, 3) {
-        if asks_dot(&rt) {
-            show_file(&rt, &err, 2, true);
-            return;
-        }
-    }
-    let _ = err.write_all(b"usage: cabinet-show [--dot] FILE\n");
 }

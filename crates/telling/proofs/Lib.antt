@@ -1,5 +1,4 @@
 -- What the proofs of telling cite.
-pub mod Ranging
 pub mod Worst
 pub mod Seeking
 pub mod Reasons
