@@ -52,6 +52,7 @@ fn put_advice(line: &mut Line<'_>, text: &[u8], actions: &[usize], e: Entry)
 }
 
 // How a place is told that spoils an action, by its value.
+// The value is a number, not a `Value`: it comes from any plan, and every number is told.
 fn put_spoilt(line: &mut Line<'_>, value: u8)
     ensures { Puts line.old (spoilt_text value) line.new }
 {
@@ -315,6 +316,7 @@ pub fn tell_place(
 }
 
 // What can be said of the whole, by the value of the start.
+// The value is a number here too: it answers for every one.
 pub fn put_outlook(line: &mut Line<'_>, value: u8)
     ensures { Puts line.old (outlook_text value) line.new }
 {
