@@ -8,7 +8,7 @@ use native.Mathlib.Omega.{arith}
 use lib.ListN.{length, get_or}
 use Rattle.slips.specs.Clauses.{Clause, states, step, final, steps, finals}
 use Rattle.slips.specs.Writing.{clause_of, clause_in, clause_at, clauses_from}
-use Rattle.slips.specs.declared.clause.Kind.{Kind}
+use Rattle.slips.specs.declared.kind.Kind.{Kind}
 use Rattle.slips.specs.Filling.{StateLeft}
 use Rattle.slips.proofs.Accept.{step_below, steps_below}
 

@@ -4,8 +4,8 @@ use Rattle.sets.specs.Sets.{one}
 use Rattle.rules.specs.Answers.{refusal_fault}
 use Rattle.game.specs.Below.{every_below}
 use Rattle.slips.specs.Clauses.{Clause, existence, absence, response, precedence, states, steps, finals}
-use Rattle.slips.specs.declared.clause.Kind.{Kind}
-use Rattle.slips.specs.declared.clause.NoKind.{NoKind}
+use Rattle.slips.specs.declared.kind.Kind.{Kind}
+use Rattle.slips.specs.declared.kind.NoKind.{NoKind}
 use Rattle.rules.specs.declared.answer.Refusal.{Refusal}
 
 -- A clause is a kind, 0 to 3, and the propositions a and b.

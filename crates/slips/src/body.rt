@@ -4,7 +4,8 @@ ghost use Rattle.slips.specs.Clauses.{steps, finals};
 ghost use Rattle.slips.specs.Writing.{clauses_from};
 ghost use Rattle.slips.specs.Filling.{StateLeft, ByteLeft, BodyLeft, body_byte, Filled};
 
-use crate::clause::{Kind, final_one, next_one};
+use crate::clause::{final_one, next_one};
+use crate::kind::Kind;
 
 // 3 to the n: how many goal states n clauses have.
 pub fn power(n: usize) -> usize

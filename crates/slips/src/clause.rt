@@ -1,58 +1,9 @@
-// One clause: its kind, its next goal state under a label, and whether a goal state is final.
-ghost use Rattle.std.specs.Prelude.{◌≡◌, cond, not, ◌&&◌, ℕ, eqb, leb};
+// One clause: its next goal state under a label, and whether a goal state is final.
+ghost use Rattle.std.specs.Prelude.{◌≡◌, cond, not, ◌&&◌, ℕ, eqb};
 ghost use Rattle.slips.specs.Clauses.{step, final};
-ghost use Rattle.slips.specs.Writing.{clause_in, clause_of, kind_number, KindOf};
+ghost use Rattle.slips.specs.Writing.{clause_in};
 
-// What a clause asks, in the order of the numbers of the kinds.
-#[derive(Clone, Copy, Debug, PartialEq, Eq)]
-pub enum Kind {
-    Existence,
-    Absence,
-    Response,
-    Precedence,
-}
-
-// A number that no kind has.
-#[derive(Clone, Copy, Debug, PartialEq, Eq)]
-pub struct NoKind(pub u8);
-
-impl TryFrom<u8> for Kind {
-    type Error = NoKind;
-
-    ghost try_from_gives = { KindOf };
-
-    fn try_from(number: u8) -> Result<Kind, NoKind> {
-        match number {
-            0 => Ok(Kind::Existence),
-            1 => Ok(Kind::Absence),
-            2 => Ok(Kind::Response),
-            3 => Ok(Kind::Precedence),
-            _ => Err(NoKind(number)),
-        }
-    }
-}
-
-impl Kind {
-    // The kind of a number in slips. Slips with a number above 3 are refused; it reads as the last kind.
-    pub fn of(number: u8) -> Kind
-        ensures { (a b : ℕ) → clause_in result a b ≡ clause_of number a b }
-    {
-        match Kind::try_from(number) {
-            Ok(kind) => kind,
-            Err(_) => Kind::Precedence,
-        }
-    }
-
-    // Whether a clause of the kind speaks of a second proposition.
-    pub fn has_second(self) -> bool
-        ensures { result ≡ leb 2 (kind_number self) }
-    {
-        match self {
-            Kind::Existence | Kind::Absence => false,
-            Kind::Response | Kind::Precedence => true,
-        }
-    }
-}
+use crate::kind::Kind;
 
 // Existence and absence: 1 once a is seen.
 fn seen(q: usize, a: bool) -> usize

@@ -3,7 +3,7 @@ ghost use Rattle.std.specs.Prelude.{◌≡◌, ◌&&◌, ◌*◌, ◌%◌, ◌�
 ghost use Rattle.game.specs.Below.{every_below};
 ghost use Rattle.slips.specs.Writing.{in_kind, in_kind_at, written_refusal, written_length, Writing};
 
-use crate::clause::Kind;
+use crate::kind::Kind;
 use rules::answer::Refusal;
 
 // Whether so many bytes are one, two or three clauses.

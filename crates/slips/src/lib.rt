@@ -4,3 +4,4 @@
 mod body;
 mod clause;
 pub mod goal;
+pub mod kind;
