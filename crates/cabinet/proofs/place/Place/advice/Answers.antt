@@ -46,12 +46,12 @@ returns-then-not-is_of c =
 pub overflow_cast-p : goal.overflow_cast-p
 overflow_cast-p c =
     let f = read_fit c.args.job.now c.in_ok-l.l c.in_ok-l.ensures in
-    omega (arith, few_states f, on_place f _ _ (sym c.is_of.ensures ∙ c.if-not-is_of.false))
+    omega (arith, few_states f, few_goals f, on_place f _ _ (sym c.is_of.ensures ∙ c.if-not-is_of.false))
 
 pub overflow_cast-p-2 : goal.overflow_cast-p-2
 overflow_cast-p-2 c =
     let f = read_fit c.args.job.now c.in_ok-l.l c.in_ok-l.ensures in
-    omega (arith, few_goals f, on_place f _ _ (sym c.is_of.ensures ∙ c.if-not-is_of.false))
+    omega (arith, few_states f, few_goals f, on_place f _ _ (sym c.is_of.ensures ∙ c.if-not-is_of.false))
 
 pub overflow_cast-l : goal.overflow_cast-l
 overflow_cast-l c =

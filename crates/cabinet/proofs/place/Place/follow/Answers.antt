@@ -1,11 +1,9 @@
 -- `Place::follow` meets its contract: what reading refuses is refused; the place is judged, then the record is looked for, and its outcome is
 -- entered.
 use mathlib.Core.Path.{sym, ◌∙◌}
-use native.Mathlib.Omega.{arith}
 use Rattle.std.proofs.lemmas.Result.{err_from_is_err_and}
-use Rattle.job.proofs.Asking.{few_records}
 use Rattle.job.proofs.Readings.{read_fit}
-use Rattle.cabinet.proofs.Answering.{place_said, on_place, follow_refused, follow_no_place, follow_unknown, follow_moves, record_below}
+use Rattle.cabinet.proofs.Answering.{place_said, on_place, follow_refused, follow_no_place, follow_unknown, follow_moves}
 use Rattle.cabinet.proofs.Answering.{outcome_state}
 use Rattle.cabinet.proofs.place.Place.follow.Goals as goal
 
@@ -22,11 +20,6 @@ returns-then-not-is_of c =
 
 pub find-requires : goal.find-requires
 find-requires c = read_fit c.args.job.now c.in_ok-l.l c.in_ok-l.ensures
-
-pub overflow_cast-k : goal.overflow_cast-k
-overflow_cast-k c =
-    let f = read_fit c.args.job.now c.in_ok-l.l c.in_ok-l.ensures in
-    omega (arith, few_records f, record_below f _ _ _ c.in-Some.ensures)
 
 pub enter-requires : goal.enter-requires
 enter-requires c =
