@@ -52,6 +52,7 @@ fn walk_from(
     let states = l.states;
     let mut end = tail;
     let mut k = index[t] as usize;
+    // From link to link, and no range.
     while k < n {
         let m = job::ask::move_at(job, l, k);
         k = index[states + k] as usize;

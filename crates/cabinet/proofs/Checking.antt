@@ -1,6 +1,6 @@
 -- The call that checks a plan: that its promise determines the figures, which numbers it gives, what its figures are besides, and what it
 -- buys.
-use Prim.Native.Nat.{ℕ, zero, suc, ◌≤◌, ◌<◌}
+use Prim.Native.Nat.{ℕ, ◌≤◌, ◌<◌}
 use mathlib.Core.Bool.{true}
 use mathlib.Core.List.{List, []}
 use mathlib.Core.Logic.{◌⊎◌, inl, inr, ◌↔◌, ◌≢◌}
@@ -23,7 +23,6 @@ use Rattle.game.proofs.Tests.{and_iff, ltb_iff}
 use Rattle.rules.proofs.Figures.{known_by}
 use Rattle.rules.proofs.Numbers.{Told}
 use Rattle.rules.proofs.Planned.{entry_of}
-use Rattle.checking.specs.Checking as checking
 use Rattle.checking.specs.Checking.{AllowedAt, Checking, refused, no_room, wrong, passed, Checks}
 use Rattle.checking.proofs.Checked.{checking_unique, checked_exactly, WrongAt, wrong_at, own_always_passes}
 use Rattle.checking.proofs.Demands.{passed_values, passed_followable, passed_on, passed_wins, passed_hopes}

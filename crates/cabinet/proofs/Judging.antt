@@ -1,18 +1,17 @@
 -- The call that judges a recorded run: that its promise determines the figures, which numbers it gives and that each is given, that it says
 -- yes exactly when the formula holds, and that of slips it says what the Goal body says that is written from them.
-use Prim.Native.Nat.{ℕ, ◌<◌}
-use mathlib.Core.List.{List, [], ◌∷◌}
+use Prim.Native.Nat.{ℕ}
+use mathlib.Core.List.{List}
 use mathlib.Core.Logic.{◌⊎◌, inl, inr, ◌↔◌}
 use mathlib.Core.Path.{◌≡◌, refl, ap₂}
-use native.Mathlib.Omega.{arith}
-use lib.ListN.{length, take}
+use lib.ListN.{take}
 use Rattle.rules.specs.Formula.{Formula, Satisfies}
 use Rattle.rules.specs.Trace.{reads}
 use Rattle.slips.specs.Clauses.{states}
 use Rattle.slips.specs.Writing.{clauses}
 use Rattle.slips.proofs.Written.{next_in, mark_in, LabelsBelow}
-use Rattle.judging.specs.Formulas.{written, Formed, depth}
-use Rattle.judging.specs.Judging.{TraceFits, LabelsFit, Judging, trace_bad, formula_bad, too_deep, label_bad, yes, no}
+use Rattle.judging.specs.Formulas.{written, Formed}
+use Rattle.judging.specs.Judging.{TraceFits, Judging, trace_bad, formula_bad, too_deep, label_bad, yes, no}
 use Rattle.judging.specs.SlipFormulas.{goal_of}
 use Rattle.judging.proofs.Answers.{judging_unique, judged_exactly}
 use Rattle.judging.proofs.Written.{written_judged}

@@ -2,12 +2,14 @@
 use Prim.Native.Nat.{ℕ}
 use mathlib.Core.List.{List}
 use mathlib.Core.Path.{◌≡◌, refl, sym, ◌∙◌}
+use Rattle.std.specs.Prelude.{Result, Ok, Err}
 use Rattle.rules.specs.Fault.{Fault}
 use Rattle.rules.specs.Calls.{Planning, started, followed, advised}
 use Rattle.rules.specs.Answers as answers
 use Rattle.rules.proofs.Figures.{known_by, by_refusal, by_refusal_back}
 use Rattle.rules.proofs.Unique.{planning_unique}
 use Rattle.cabinet.specs.Figures.{figures_planned, moved_figures, figures_moved, figures_advised}
+use Rattle.rules.specs.declared.answer.Refusal.{Refusal}
 use Rattle.cabinet.specs.declared.place.Moved.{Moved}
 use Rattle.cabinet.specs.declared.calls.PlannedFigures.{PlannedFigures}
 use Rattle.cabinet.specs.declared.calls.MovedFigures.{MovedFigures}
@@ -25,14 +27,14 @@ figures_advised_known =
     (λ f. record { refusal = f.refusal; value = f.value; action = f.action; number = f.number; «record» = f.«record» })
     (λ f. refl)
 
-abbrev moved_of : answers.MovedFigures → Moved
-moved_of f = by_refusal f.refusal f.«record» (Moved.To (record { state = f.state; goal = f.goal }) f.«record») Moved.Refused
+abbrev moved_of : answers.MovedFigures → Result Moved Refusal
+moved_of f = by_refusal f.refusal f.«record» (Ok (record { place = record { state = f.state; goal = f.goal }; «record» = f.«record» })) Err
 
-moved_back : (r : Moved) → moved_of (moved_figures r) ≡ r
-moved_back (Moved.To p k) = refl
-moved_back (Moved.Refused r) = by_refusal_back r _ Moved.Refused
+moved_back : (r : Result Moved Refusal) → moved_of (moved_figures r) ≡ r
+moved_back (Ok m) = refl
+moved_back (Err r) = by_refusal_back r _ Err
 
-pub moved_known : (r s : Moved) → moved_figures r ≡ moved_figures s → r ≡ s
+pub moved_known : (r s : Result Moved Refusal) → moved_figures r ≡ moved_figures s → r ≡ s
 moved_known = known_by moved_figures moved_of moved_back
 
 -- ---- the calls for C
@@ -56,5 +58,5 @@ advice_unique b p s q r r' e e' = figures_advised_known r r' (e ∙ sym e')
 
 -- ---- the methods: starting and following; `advised_unique` of the rules says it of advice
 
-pub moved_unique : (f : answers.MovedFigures) (r r' : Moved) → moved_figures r ≡ f → moved_figures r' ≡ f → r ≡ r'
+pub moved_unique : (f : answers.MovedFigures) (r r' : Result Moved Refusal) → moved_figures r ≡ f → moved_figures r' ≡ f → r ≡ r'
 moved_unique f r r' e e' = moved_known r r' (e ∙ sym e')

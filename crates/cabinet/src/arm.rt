@@ -5,22 +5,12 @@ ghost use Rattle.larger.specs.Calls.{advised_slips};
 ghost use Rattle.cabinet.specs.Figures.{figures_planned, figures_advised};
 
 use crate::calls::{AdvisedFigures, PlannedFigures};
-use rules::answer::Planned;
 
 // Plans a job for up to so many slips into a buffer: a plan for each count of slips left, slips 0 first.
 pub fn cabinet_plan_slips(job: &[u8], slips: u32, plan: &mut [u8]) -> PlannedFigures
     ensures { Trembling job.now slips plan.old (figures_planned result) plan.new }
 {
-    match trembling::plan::plan_slips(job, slips, plan) {
-        Planned::Refused(why) => PlannedFigures {
-            refusal: why.number(),
-            record: why.record(),
-        },
-        Planned::Done => PlannedFigures {
-            refusal: 0,
-            record: 0,
-        },
-    }
+    trembling::plan::plan_slips(job, slips, plan).into()
 }
 
 // Looks up what plans for up to so many slips say of a place with so many slips left.
@@ -34,5 +24,5 @@ pub fn cabinet_advice_slips(
 ) -> AdvisedFigures
     ensures { figures_advised result ≡ advised_slips job.now slips plan.now state goal left }
 {
-    crate::calls::of_advised(trembling::advice::advice_slips(job, slips, plan, state, goal, left))
+    trembling::advice::advice_slips(job, slips, plan, state, goal, left).into()
 }

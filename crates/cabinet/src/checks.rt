@@ -1,11 +1,12 @@
 // The call for C that checks a plan from elsewhere.
-ghost use Rattle.checking.specs.Checking.{Checks};
+ghost use Rattle.std.specs.Prelude.{◌≡◌};
+ghost use Rattle.checking.specs.Checking.{Checks, checked_figures};
 ghost use Rattle.cabinet.specs.Checks.{figures_checked};
 
-use checking::check::Checked;
+use checking::check::CheckError;
 
 #[repr(C)]
-#[derive(Clone, Copy)]
+#[derive(Clone, Copy, Debug, PartialEq, Eq)]
 pub struct CheckedFigures {
     pub refusal: u32,
     pub state: u32,
@@ -13,28 +14,36 @@ pub struct CheckedFigures {
     pub record: u32,
 }
 
+impl From<Result<(), CheckError>> for CheckedFigures {
+    ghost from_gives = { λ r f. figures_checked f ≡ checked_figures r };
+
+    fn from(answer: Result<(), CheckError>) -> CheckedFigures {
+        match answer {
+            Ok(()) => CheckedFigures {
+                refusal: 0,
+                state: 0,
+                goal: 0,
+                record: 0,
+            },
+            Err(CheckError::Wrong { state, goal }) => CheckedFigures {
+                refusal: 16,
+                state,
+                goal,
+                record: 0,
+            },
+            Err(CheckError::Refused(why)) => CheckedFigures {
+                refusal: why.number(),
+                state: 0,
+                goal: 0,
+                record: why.record(),
+            },
+        }
+    }
+}
+
 // Checks a plan against a job: right is 0, and 16 comes with the lowest place whose entry is wrong.
 pub fn cabinet_check(job: &[u8], plan: &[u8]) -> CheckedFigures
     ensures { Checks job.now plan.now (figures_checked result) }
 {
-    match checking::check::check(job, plan) {
-        Checked::Refused(why) => CheckedFigures {
-            refusal: why.number(),
-            state: 0,
-            goal: 0,
-            record: why.record(),
-        },
-        Checked::Wrong { state, goal } => CheckedFigures {
-            refusal: 16,
-            state,
-            goal,
-            record: 0,
-        },
-        Checked::Right => CheckedFigures {
-            refusal: 0,
-            state: 0,
-            goal: 0,
-            record: 0,
-        },
-    }
+    checking::check::check(job, plan).into()
 }

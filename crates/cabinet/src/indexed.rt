@@ -3,7 +3,6 @@ ghost use Rattle.backward.specs.Call.{PlanningBy};
 ghost use Rattle.cabinet.specs.Figures.{figures_planned};
 
 use crate::calls::PlannedFigures;
-use rules::answer::Planned;
 
 // Plans a job into a buffer by the second engine.
 pub fn cabinet_plan_indexed(
@@ -15,14 +14,5 @@ pub fn cabinet_plan_indexed(
     ensures { PlanningBy job.now plan.old index.old counters.old
         (figures_planned result) plan.new index.new counters.new }
 {
-    match backward::plan::plan(job, plan, index, counters) {
-        Planned::Refused(why) => PlannedFigures {
-            refusal: why.number(),
-            record: why.record(),
-        },
-        Planned::Done => PlannedFigures {
-            refusal: 0,
-            record: 0,
-        },
-    }
+    backward::plan::plan(job, plan, index, counters).into()
 }

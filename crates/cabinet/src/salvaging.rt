@@ -2,10 +2,8 @@
 ghost use Rattle.rules.specs.Fault.{with_record};
 ghost use Rattle.salvage.specs.Salvage.{Salvaging};
 
-use salvage::tool::Salvaged;
-
 #[repr(C)]
-#[derive(Clone, Copy)]
+#[derive(Clone, Copy, Debug, PartialEq, Eq)]
 pub struct SalvagedFigures {
     pub refusal: u32,
     pub job_length: u32,
@@ -18,21 +16,19 @@ pub fn cabinet_salvage(job: &[u8], salvaged: &mut [u8], pairs: &mut [u8]) -> Sal
     ensures { Salvaging job.now salvaged.old pairs.old
         (with_record result.refusal result.«record») result.job_length result.pairs_length salvaged.new pairs.new }
 {
+    // No From: lengths of any size have no 32 bits, and those of a job that was salvaged have.
     match salvage::tool::salvage(job, salvaged, pairs) {
-        Salvaged::Refused(why) => SalvagedFigures {
+        Ok(lengths) => SalvagedFigures {
+            refusal: 0,
+            job_length: lengths.job as u32,
+            pairs_length: lengths.pairs as u32,
+            record: 0,
+        },
+        Err(why) => SalvagedFigures {
             refusal: why.number(),
             job_length: 0,
             pairs_length: 0,
             record: why.record(),
-        },
-        Salvaged::Done {
-            job_length,
-            pairs_length,
-        } => SalvagedFigures {
-            refusal: 0,
-            job_length: job_length as u32,
-            pairs_length: pairs_length as u32,
-            record: 0,
         },
     }
 }

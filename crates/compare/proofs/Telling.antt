@@ -28,13 +28,16 @@ use Rattle.rules.proofs.Planned.{planned_right}
 use Rattle.job.specs.Layout.{Fit}
 use Rattle.job.specs.declared.layout.Layout.{Layout}
 use Rattle.job.proofs.Asking.{states_said, goals_said}
+use Rattle.text.specs.declared.Line.{Line}
 use Rattle.text.specs.PutText.{PutText}
+use Rattle.text.specs.Puts.{Puts}
 use Rattle.text.specs.Lines.{decimal, bytes, value_word, action_word, line_of, refusal_line}
 use Rattle.text.proofs.Digits.{decimal_length}
 use Rattle.text.proofs.Lengths.{short_value, short_refusal, fault_few, put_front}
 use Rattle.checking.specs.Checking.{Checking, refused, no_room, passed, checked_figures, Checks}
 use Rattle.checking.specs.Checking as checking
-use Rattle.checking.specs.declared.check.Checked.{Checked}
+use Rattle.std.specs.Prelude.{Ok, Err}
+use Rattle.checking.specs.declared.check.CheckError.{CheckError}
 use Rattle.checking.proofs.Checked.{checking_unique, wrong_at}
 use Rattle.compare.specs.Tells.{said_value, said_text, wrong_line, Tells, right, wrong, refuses, Told}
 
@@ -106,10 +109,10 @@ tells_short {b} {p} byte (wrong {s} {q} {r} c d) =
 tells_short byte (refuses {f} c z w) = let (n, k) = checking_few c in omega (arith, short_refusal f n k)
 
 -- So in a buffer of 64 bytes the first n are the text.
-pub told_whole : {b p out left : List ℕ} {n : ℕ} → Told b p out left n → ((i : ℕ) → get_or p i 0 < 256) → 64 ≤ length out
-    → IsPrefixLen n left × Tells b p (take n left)
-told_whole {b} {p} t byte room =
-    let (count, text) = put_front t.put (omega (arith, tells_short byte t.tells)) in
+pub told_whole : {b p out left : List ℕ} {line after : Line} {n : ℕ} (t : Told b p line after) → PutText out 0 t.text left n
+    → ((i : ℕ) → get_or p i 0 < 256) → 64 ≤ length out → IsPrefixLen n left × Tells b p (take n left)
+told_whole {b} {p} t put byte room =
+    let (count, text) = put_front put (omega (arith, tells_short byte t.tells)) in
     (count, subst⁻¹ (Tells b p) text t.tells)
 
 -- ---- what is left in the buffer, by what the check answered
@@ -121,8 +124,8 @@ not_wrong r e =
     let n : (refusal_fault r).number ≡ 17 = ap (λ (x : Refusal). (refusal_fault x).number) is in
     omega arith
 
-pub told_refused : {b p out left : List ℕ} {n : ℕ} (r : Refusal) → Checks b p (checked_figures (Checked.Refused r))
-    → PutText out 0 (refusal_line (refusal_fault r)) left n → Told b p out left n
+pub told_refused : {b p : List ℕ} {line after : Line} (r : Refusal) → Checks b p (checked_figures (Err (CheckError.Refused r)))
+    → Puts line (refusal_line (refusal_fault r)) after → Told b p line after
 told_refused r c put =
     record {
       text = refusal_line (refusal_fault r);
@@ -130,8 +133,8 @@ told_refused r c put =
       put = put;
     }
 
-pub told_right : {b p out left : List ℕ} {n : ℕ} → Checks b p (checked_figures Checked.Right)
-    → PutText out 0 (line_of (bytes "right") []) left n → Told b p out left n
+pub told_right : {b p : List ℕ} {line after : Line} → Checks b p (checked_figures (Ok tt))
+    → Puts line (line_of (bytes "right") []) after → Told b p line after
 told_right c put = record { text = line_of (bytes "right") []; tells = right c; put = put }
 
 module _ {b p : List ℕ} {l : Layout} {s q : ℕ} (t : Fit b l) (c : Checking b p (only 16) s q) where
@@ -139,9 +142,9 @@ module _ {b p : List ℕ} {l : Layout} {s q : ℕ} (t : Fit b l) (c : Checking b
   pub entry_inside : s * l.goals + q < l.states * l.goals
   entry_inside = let w = wrong_at c refl in digits_lt (rw (states_said t) w.state) (rw (goals_said t) w.goal)
 
-  pub told_wrong : {own own' out left : List ℕ} {n : ℕ} {e r : Entry} → Planning b own (only 0) own' → e ≡ entry p (s * l.goals + q)
-      → r ≡ entry own' (s * l.goals + q) → PutText out 0 (wrong_line s q e r) left n → Told b p out left n
-  told_wrong {own' = own'} {out} {left} {n} d eq er put =
+  pub told_wrong : {own own' : List ℕ} {line after : Line} {e r : Entry} → Planning b own (only 0) own' → e ≡ entry p (s * l.goals + q)
+      → r ≡ entry own' (s * l.goals + q) → Puts line (wrong_line s q e r) after → Told b p line after
+  told_wrong {own' = own'} d eq er put =
       let w = wrong_at c refl in
       let i = (inside_iff (said b) (place s q)).1 (w.state, w.goal) in
       record {

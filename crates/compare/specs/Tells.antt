@@ -6,7 +6,8 @@ use Rattle.rules.specs.Job.{place, arena}
 use Rattle.rules.specs.Fault.{Fault, only}
 use Rattle.rules.specs.Bytes.{said}
 use Rattle.rules.specs.Plan.{planned_entry}
-use Rattle.text.specs.PutText.{PutText}
+use Rattle.text.specs.declared.Line.{Line}
+use Rattle.text.specs.Puts.{Puts}
 use Rattle.text.specs.Lines.{decimal, bytes, value_word, action_word, line_of, refusal_line}
 use Rattle.checking.specs.Checking.{Checking}
 
@@ -29,8 +30,8 @@ pub data Tells (b p : List ℕ) : List ℕ → Type 0 where
       → Tells b p (wrong_line s q (planned_entry (said b) p (place s q)) r)
   refuses : {f : Fault} {s q : ℕ} → Checking b p f s q → f.number ≢ 0 → f.number ≢ 16 → Tells b p (refusal_line f)
 
--- such a text stands at the beginning of the buffer, which held `out` and then holds `left`
-pub record Told (b p out left : List ℕ) (n : ℕ) : Type 0 where
+-- such a text is put in the line
+pub record Told (b p : List ℕ) (line after : Line) : Type 0 where
   pub text : List ℕ
   pub tells : Tells b p text
-  pub put : PutText out 0 text left n
+  pub put : Puts line text after

@@ -81,6 +81,7 @@ fn line(rt: &impl Print, text: &[u8])
 
 fn lines(rt: &impl Print, text: &[u8]) {
     let mut at: usize = 0;
+    // From line to line, and no range: where a line ends is found on the way.
     while at < text.len() {
         let next = past(text, at, b'\n');
         line(rt, &text[at..next]);

@@ -3,7 +3,7 @@ ghost use Rattle.std.specs.Prelude.{◌≡◌};
 ghost use Rattle.judging.specs.Nodes.{node_of};
 ghost use Rattle.judging.specs.Reading.{ReadOf, Shallow, raised, at_least};
 
-// What a byte of a formula says: an atom, one of the operators, or nothing.
+// What a byte of a formula says: an atom, one of the operators, or nothing, which is a case as the others are, so that one match tells all.
 #[derive(Clone, Copy, Debug, PartialEq, Eq)]
 pub enum Node {
     Atom,

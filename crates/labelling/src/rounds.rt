@@ -8,7 +8,8 @@ use job::layout::Layout;
 use phases::phase::Phase;
 use sets::places::PlaceSet;
 
-// Rounds of the phase, from the set on, which has no place but the job's, until one adds nothing. Each before it adds a place, so that there is an end.
+// Rounds of the phase, from the set on, which has no place but the job's, until one adds nothing. Each before it adds a place, so that there is an
+// end; how many there are is not known before, so that this is no for.
 pub fn all_rounds(plan: &mut [u8], job: &[u8], l: Layout, set: PlaceSet, phase: Phase) -> PlaceSet
     requires fit { Fit job.now l }
     requires goals_in_bounds { 4 * (l.states * l.goals) ≤ length plan.old }

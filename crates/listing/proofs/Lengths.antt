@@ -26,6 +26,8 @@ use Rattle.rules.proofs.Arenas.{inside_iff, start_inside}
 use Rattle.rules.proofs.Planned.{planned_right}
 use Rattle.cabinet.proofs.Advising.{allowed_shaped}
 use Rattle.game.proofs.Following.{right_allowed}
+use Rattle.text.specs.declared.Line.{Line}
+use Rattle.text.specs.PutText.{PutText}
 use Rattle.text.specs.Lines.{decimal, action_word, entry_line, start_line}
 use Rattle.text.proofs.Digits.{decimal_length}
 use Rattle.text.proofs.Repeating.{short_each}
@@ -120,8 +122,8 @@ prints_short {b} (lists {after} done) =
     (omega (arith, short_first done, short_lines done))
 
 -- So in a buffer of that length the first n bytes are the text.
-pub printed_whole : {b before out left : List ℕ} {n : ℕ} → Printed b before out left n → 393237 ≤ length out
-    → IsPrefixLen n left × Prints b before (take n left)
-printed_whole {b} {before} p room =
-    let (count, text) = put_front p.put (omega (arith, prints_short p.right)) in
+pub printed_whole : {b before out left : List ℕ} {line after : Line} {n : ℕ} (p : Printed b before line after) → PutText out 0 p.text left n
+    → 393237 ≤ length out → IsPrefixLen n left × Prints b before (take n left)
+printed_whole {b} {before} p put room =
+    let (count, text) = put_front put (omega (arith, prints_short p.right)) in
     (count, subst⁻¹ (Prints b before) text p.right)

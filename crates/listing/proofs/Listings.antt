@@ -11,20 +11,20 @@ use Rattle.rules.specs.Bytes.{refusal, said}
 use Rattle.rules.specs.Keeps.{Keeps}
 use Rattle.rules.specs.Answers.{refusal_fault, planned_fault}
 use Rattle.rules.specs.Calls.{Planning, moved_to, started, is_place}
-use Rattle.rules.specs.declared.answer.Planned.{Planned}
+use Rattle.std.specs.Prelude.{Result, Ok, Err}
 use Rattle.rules.specs.declared.answer.Refusal.{Refusal}
 use Rattle.rules.proofs.Figures.{refusal_some}
 use Rattle.rules.proofs.Kept.{kept}
 use Rattle.rules.proofs.Arenas.{inside_iff, start_inside}
 use Rattle.job.specs.Reading.{reading, reading_figures}
 use Rattle.job.specs.declared.layout.Layout.{Layout}
-use Rattle.job.specs.declared.layout.Reading.{Reading}
 use Rattle.job.proofs.Asking.{states_said, goals_said}
 use Rattle.job.proofs.Readings.{read_refused_some}
 use Rattle.rules.proofs.Planned.{planned_exactly}
 use Rattle.cabinet.proofs.Advising.{advice_planned}
 use Rattle.cabinet.proofs.Answering.{was_read}
-use Rattle.text.specs.PutText.{PutText}
+use Rattle.text.specs.declared.Line.{Line}
+use Rattle.text.specs.Puts.{Puts}
 use Rattle.text.specs.Lines.{refusal_line}
 use Rattle.listing.specs.Listing.{first_line, place_line, lines, listing, refuses, lists}
 use Rattle.listing.specs.Told.{advice_line, value_line, moved_line, advised_line, started_line, Printed}
@@ -56,11 +56,10 @@ module _ {b before after : List ℕ} (done : Planning b before (only 0) after) w
       let rest = lines_same (advised_line b after) (place_line (said b) after) (said b).states (said b).goals line_told in
       λ i. first_told i ++ rest i
 
--- ---- what is left in the buffer, by what planning answered, x, and what reading answered, y
+-- ---- what is left of the line, by what planning answered, x, and what reading answered, y
 
-module _ {b before after out left : List ℕ} {n : ℕ} {x : Planned} (plans : Planning b before (planned_fault x) after) where
-  pub printed_refusal : {why : Refusal} → x ≡ Planned.Refused why → PutText out 0 (refusal_line (refusal_fault why)) left n
-      → Printed b before out left n
+module _ {b before after : List ℕ} {line line' : Line} {x : Result (Unit {0}) Refusal} (plans : Planning b before (planned_fault x) after) where
+  pub printed_refusal : {why : Refusal} → x ≡ Err why → Puts line (refusal_line (refusal_fault why)) line' → Printed b before line line'
   printed_refusal {why} e put =
       let p : Planning b before (refusal_fault why) after = rw e at plans in
       record {
@@ -70,14 +69,14 @@ module _ {b before after out left : List ℕ} {n : ℕ} {x : Planned} (plans : P
       }
 
   -- a job that was planned is not refused when it is read
-  pub read_planned : x ≡ Planned.Done → {y : Reading} {why : Refusal} → y ≡ Reading.Refused why → reading_figures y ≡ reading b
-      → Printed b before out left n
+  pub read_planned : x ≡ Ok tt → {y : Result Layout Refusal} {why : Refusal} → y ≡ Err why → reading_figures y ≡ reading b
+      → Printed b before line line'
   read_planned e {why = why} i r =
       let done : Planning b before (only 0) after = rw e at plans in
       absurd (read_refused_some b why (ap reading_figures (sym i) ∙ r) ((kept b).1 (keeps done)))
 
-  pub printed_listing : x ≡ Planned.Done → {y : Reading} {l : Layout} → y ≡ Reading.Job l → reading_figures y ≡ reading b
-      → PutText out 0 (started_line b after ++ lines (advised_line b after) l.states l.goals) left n → Printed b before out left n
+  pub printed_listing : x ≡ Ok tt → {y : Result Layout Refusal} {l : Layout} → y ≡ Ok l → reading_figures y ≡ reading b
+      → Puts line (started_line b after ++ lines (advised_line b after) l.states l.goals) line' → Printed b before line line'
   printed_listing e {l = l} i r put =
       let done : Planning b before (only 0) after = rw e at plans in
       let f = was_read b i r in

@@ -1,9 +1,10 @@
--- The text of the calls' answers, whatever the plan is, and what is left in a buffer: what the listing's functions promise one another.
+-- The text of the calls' answers, whatever the plan is, and what is left of a line: what the listing's functions promise one another.
 use Rattle.std.specs.Prelude.{ℕ, cond, List, eqb}
 use Rattle.rules.specs.Fault.{Fault}
 use Rattle.rules.specs.Answers.{MovedFigures, AdvisedFigures, moved_fault, advised_fault}
 use Rattle.rules.specs.Calls.{started, advised}
-use Rattle.text.specs.PutText.{PutText}
+use Rattle.text.specs.declared.Line.{Line}
+use Rattle.text.specs.Puts.{Puts}
 use Rattle.text.specs.Lines.{entry_line, start_line, refusal_line}
 use Rattle.listing.specs.Listing.{Prints}
 
@@ -34,10 +35,10 @@ valued_line b p s q = value_line s q (advised b p s q)
 abbrev pub started_line : List ℕ → List ℕ → List ℕ
 started_line b p = moved_line b p (started b)
 
--- ---- what is left in a buffer
+-- ---- what is left of a line
 
--- the text that is to be printed stands at the beginning of the buffer, which held `out` and then holds `left`
-pub record Printed (b before out left : List ℕ) (n : ℕ) : Type 0 where
+-- the text that is to be printed is put in the line
+pub record Printed (b before : List ℕ) (line after : Line) : Type 0 where
   pub text : List ℕ
   pub right : Prints b before text
-  pub put : PutText out 0 text left n
+  pub put : Puts line text after

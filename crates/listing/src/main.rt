@@ -4,119 +4,85 @@
 ghost use Rattle.std.specs.Prelude.{◌++◌, take, replicate};
 ghost use Rattle.io.specs.Counts.{IsPrefixLen};
 ghost use Rattle.game.specs.Below.{upto, each};
-ghost use Rattle.text.specs.PutText.{PutText};
+ghost use Rattle.text.specs.Puts.{Puts};
 ghost use Rattle.listing.specs.Listing.{lines, Prints};
 ghost use Rattle.listing.specs.Told.{valued_line, started_line, advised_line, Printed};
 
-use cabinet::place::{Moved, Place};
-use job::layout::Reading;
-use rules::answer::{Advised, Planned};
-use std::io::Read;
+use cabinet::place::Place;
+use programs::input::read_up_to;
+use text::Line;
 
 // The longest text: 16,384 lines of at most 24 bytes, and the first of at most 21.
 const ROOM: usize = 393237;
 
 // The first line, of the starting place p.
-fn list_first(out: &mut [u8], at: usize, job: &[u8], plan: &[u8], p: Place) -> usize
-    ensures { PutText out.old at
-        (valued_line job.now plan.now p.state p.goal)
-        out.new result }
+fn list_first(line: &mut Line<'_>, job: &[u8], plan: &[u8], p: Place)
+    ensures { Puts line.old (valued_line job.now plan.now p.state p.goal) line.new }
 {
     match p.advice(job, plan) {
-        Advised::Refused(why) => text::put_refusal(out, at, why),
-        Advised::Says {
-            value,
-            action: _,
-            number: _,
-        } => text::put_start(out, at, p.state, p.goal, value),
+        Err(why) => line.put_refusal(why),
+        Ok(advice) => line.put_start(p.state, p.goal, advice.value),
     }
 }
 
 // The first line, wherever the job starts.
-fn list_start(out: &mut [u8], at: usize, job: &[u8], plan: &[u8]) -> usize
-    ensures { PutText out.old at
-        (started_line job.now plan.now)
-        out.new result }
+fn list_start(line: &mut Line<'_>, job: &[u8], plan: &[u8])
+    ensures { Puts line.old (started_line job.now plan.now) line.new }
 {
     match (Place { state: 0, goal: 0 }).start(job) {
-        Moved::Refused(why) => text::put_refusal(out, at, why),
-        Moved::To { place, record: _ } => list_first(out, at, job, plan, place),
+        Err(why) => line.put_refusal(why),
+        Ok(moved) => list_first(line, job, plan, moved.place),
     }
 }
 
 // The line of a place.
-fn list_place(out: &mut [u8], at: usize, job: &[u8], plan: &[u8], p: Place) -> usize
-    ensures { PutText out.old at
-        (advised_line job.now plan.now p.state p.goal)
-        out.new result }
+fn list_place(line: &mut Line<'_>, job: &[u8], plan: &[u8], p: Place)
+    ensures { Puts line.old (advised_line job.now plan.now p.state p.goal) line.new }
 {
     match p.advice(job, plan) {
-        Advised::Refused(why) => text::put_refusal(out, at, why),
-        Advised::Says {
-            value,
-            action,
-            number,
-        } => text::put_entry(out, at, p.state, p.goal, value, action, number),
+        Err(why) => line.put_refusal(why),
+        Ok(a) => line.put_entry(p.state, p.goal, a.value, a.action, a.number),
     }
 }
 
 // The places of one state.
-fn list_state(out: &mut [u8], at: usize, job: &[u8], plan: &[u8], state: u32, goals: u32) -> usize
-    ensures { PutText out.old at
-        (each (upto goals) (advised_line job.now plan.now state))
-        out.new result }
+fn list_state(line: &mut Line<'_>, job: &[u8], plan: &[u8], state: u32, goals: u32)
+    ensures { Puts line.old (each (upto goals) (advised_line job.now plan.now state)) line.new }
 {
-    let mut next = at;
-    let mut goal: u32 = 0;
-    while goal < goals {
-        next = list_place(out, next, job, plan, Place { state, goal });
-        goal += 1;
+    for goal in 0..goals {
+        list_place(line, job, plan, Place { state, goal });
     }
-    next
 }
 
 // Every place, state by state.
-fn list_states(out: &mut [u8], at: usize, job: &[u8], plan: &[u8], states: u32, goals: u32) -> usize
-    ensures { PutText out.old at
-        (lines (advised_line job.now plan.now) states goals)
-        out.new result }
+fn list_states(line: &mut Line<'_>, job: &[u8], plan: &[u8], states: u32, goals: u32)
+    ensures { Puts line.old (lines (advised_line job.now plan.now) states goals) line.new }
 {
-    let mut next = at;
-    let mut state: u32 = 0;
-    while state < states {
-        next = list_state(out, next, job, plan, state, goals);
-        state += 1;
+    for state in 0..states {
+        list_state(line, job, plan, state, goals);
     }
-    next
 }
 
 // The first line, and every place.
-fn list_planned(
-    out: &mut [u8],
-    at: usize,
-    job: &[u8],
-    plan: &[u8],
-    states: u32,
-    goals: u32,
-) -> usize
-    ensures { PutText out.old at
+fn list_planned(line: &mut Line<'_>, job: &[u8], plan: &[u8], states: u32, goals: u32)
+    ensures { Puts line.old
         (started_line job.now plan.now
         ++ lines (advised_line job.now plan.now) states goals)
-        out.new result }
+        line.new }
 {
-    let next = list_start(out, at, job, plan);
-    list_states(out, next, job, plan, states, goals)
+    list_start(line, job, plan);
+    list_states(line, job, plan, states, goals);
 }
 
-// Plans the job, and puts what is to be printed at the beginning of the buffer.
-fn list(out: &mut [u8], job: &[u8], plan: &mut [u8]) -> usize
-    ensures { Printed job.now plan.old out.old out.new result }
+// Plans the job, and puts what is to be printed in a line.
+fn list(line: &mut Line<'_>, job: &[u8], plan: &mut [u8])
+    ensures { Printed job.now plan.old line.old line.new }
 {
     match labelling::plan::plan(job, plan) {
-        Planned::Refused(why) => text::put_refusal(out, 0, why),
-        Planned::Done => match job::accept::read(job) {
-            Reading::Refused(why) => text::put_refusal(out, 0, why),
-            Reading::Job(l) => list_planned(out, 0, job, plan, l.states as u32, l.goals as u32),
+        Err(why) => line.put_refusal(why),
+        Ok(()) => match job::accept::read(job) {
+            Err(why) => line.put_refusal(why),
+            Ok(l) => list_planned(line, job, plan, l.states as u32, l.goals as u32),
         },
     }
 }
@@ -126,24 +92,9 @@ fn list_whole(out: &mut [u8; ROOM], job: &[u8], plan: &mut [u8]) -> usize
     ensures prefix_len { IsPrefixLen result out.new }
     ensures prints { Prints job.now plan.old (take result out.new) }
 {
-    list(out, job, plan)
-}
-
-// Reads until the buffer is full, the input ends or a read fails, and answers how many bytes stand at its beginning.
-fn read_full<R: Read>(input: &mut R, buffer: &mut [u8]) -> usize
-    ensures { IsPrefixLen result buffer.new }
-{
-    let mut done: usize = 0;
-    while done < buffer.len() {
-        let Ok(n) = input.read(&mut buffer[done..]) else {
-            return done;
-        };
-        if n == 0 {
-            return done;
-        }
-        done += n;
-    }
-    done
+    let mut line = Line { bytes: out, at: 0 };
+    list(&mut line, job, plan);
+    line.at
 }
 
 // Writes the text that is to be printed of the job: what is handed over here is what the listing prints.
@@ -155,7 +106,7 @@ fn print(rt: &impl Print, job: &[u8], text: &[u8])
 
 fn main(rt: HostRuntime) {
     let mut job = [0u8; 49152];
-    let n = read_full(&mut rt.stdin(), &mut job);
+    let n = read_up_to(&mut rt.stdin(), &mut job);
     let mut plan = [0u8; 65536];
     let mut out = [0u8; ROOM];
     let k = list_whole(&mut out, &job[..n], &mut plan);

@@ -8,7 +8,7 @@ ghost use Rattle.reader.specs.Handed.{answered, handed, cursor, opened, hands, m
 
 use rules::place::Move;
 
-// What opening answers: the number that refuses the job, or 0, and with 12 and 13 the bad record.
+// What opening answers: the number that refuses the job, or 0, and with 12 and 13 the bad record. Two numbers and no Result: their ranges are promised.
 #[derive(Clone, Copy, Debug, PartialEq, Eq)]
 pub struct Answer {
     pub refusal: u32,

@@ -10,6 +10,8 @@ use borrow.Author.Tests.{eqb-true, eqb-false}
 use lib.Dec.{eqb}
 use lib.ListN.{length, get_or, take, drop, length-append, replicate, length-replicate, get_or-append, take-append-drop}
 use lib.Seq.{get_or-append_seam, length-take-le, take_at, take_all}
+use Rattle.std.specs.Prelude.{Option, Some, None, Result, Ok, Err}
+use Rattle.std.specs.Bool.{then_some}
 use Rattle.sets.proofs.Bits.{same_or, below_or}
 use Rattle.totals.specs.Bundle.{entries, offset, size, due, contents_size, entries_counted, contents_fit, Bundle}
 use Rattle.totals.specs.Classes.{entry_room, Falls, FallsAs}
@@ -19,35 +21,34 @@ use Rattle.totals.specs.declared.class.Class.{Class}
 use Rattle.totals.specs.declared.tally.Totals.{Totals}
 use Rattle.totals.proofs.Bundles.{Contents, contents_iff, counted_is, entries_front, bundle_iff, judged, together, bundle_made}
 use Rattle.totals.proofs.Reporting.{reported_none, reported_more}
-use Rattle.report.specs.Read.{CameOf, whole, cut, Entries, contents, Gives, Fits, MonthOf, told, Told, told_refused, told_reported}
+use Rattle.report.specs.Read.{CameOf, whole, cut, Entries, contents, Gives, Fits, MonthOf, told_of, told, Told, told_refused, told_reported}
 use Rattle.report.specs.Report.{report, refused, Tells, refuses, reports}
-use Rattle.report.specs.declared.Came.{Came}
 use Rattle.report.specs.declared.Month.{Month}
 
 -- the class of an entry that came
-abbrev class_in : Came → Class
-class_in (Came.Whole c) = c
-class_in (Came.Cut k) = Class.Losing
+abbrev class_in : Result Class ℕ → Class
+class_in (Ok c) = c
+class_in (Err k) = Class.Losing
 
 -- how many bytes of a cut one came
-abbrev bytes_in : Came → ℕ
-bytes_in (Came.Whole c) = 0
-bytes_in (Came.Cut k) = k
+abbrev bytes_in : Result Class ℕ → ℕ
+bytes_in (Ok c) = 0
+bytes_in (Err k) = k
 
-abbrev came_line : Came → ℕ
-came_line (Came.Whole c) = 0
-came_line (Came.Cut k) = 1
+abbrev came_line : Result Class ℕ → ℕ
+came_line (Ok c) = 0
+came_line (Err k) = 1
 
-cut_not : {c : Class} {k : ℕ} → Came.Cut k ≡ Came.Whole c → ⊥
+cut_not : {c : Class} {k : ℕ} → ◌≡◌ {A = Result Class ℕ} (Err k) (Ok c) → ⊥
 cut_not e = let z : ◌≡◌ {A = ℕ} 1 0 = ap came_line e in omega arith
 
 -- fewer bytes than that came
-pub cut_short : {b : List ℕ} {size k : ℕ} {x : Came} → CameOf b size x → x ≡ Came.Cut k → k < size
+pub cut_short : {b : List ℕ} {size k : ℕ} {x : Result Class ℕ} → CameOf b size x → x ≡ Err k → k < size
 cut_short {b} {size} {k} {x} came i = go x came i
   where
-    go : (y : Came) → CameOf b size y → y ≡ Came.Cut k → k < size
-    go (Came.Whole c) came j = absurd (cut_not (sym j))
-    go (Came.Cut j) (cut l) e = subst (λ (m : ℕ). m < size) (ap bytes_in e) l
+    go : (y : Result Class ℕ) → CameOf b size y → y ≡ Err k → k < size
+    go (Ok c) came j = absurd (cut_not (sym j))
+    go (Err j) (cut l) e = subst (λ (m : ℕ). m < size) (ap bytes_in e) l
 
 -- ---- an entry
 
@@ -75,7 +76,7 @@ entry_with {first} {size} e f =
     let (long, same) = filled first size e in
     (first ++ replicate (size - length first) 0, long, f (first ++ replicate (size - length first) 0) long same)
 
-pub came_whole : {b : List ℕ} {n size : ℕ} {c : Class} → n ≡ min size entry_room → FallsAs (take n b) size c → CameOf b size (Came.Whole c)
+pub came_whole : {b : List ℕ} {n size : ℕ} {c : Class} → n ≡ min size entry_room → FallsAs (take n b) size c → CameOf b size (Ok c)
 came_whole {b} {n} {size} {c} e f = whole (subst (λ (k : ℕ). FallsAs (take k b) size c) e f)
 
 -- ---- the entries
@@ -91,14 +92,14 @@ module _ {h : List ℕ} {n : ℕ} {t : Totals} (e : Entries h n t) where
   entries_all l = (e.all, e.reported, omega (arith, e.count))
 
   -- one more came
-  pub entries_more : {f : List ℕ} {m : ℕ} {c : Class} {x : Came} {u : Totals} → CameOf f m x → x ≡ Came.Whole c
+  pub entries_more : {f : List ℕ} {m : ℕ} {c : Class} {x : Result Class ℕ} {u : Totals} → CameOf f m x → x ≡ Ok c
       → m ≡ size h n → u ≡ added t c → entry_room ≤ length f → Entries h (n + 1) u
   entries_more {f} {m} {c} {x} {u} came i s r room = subst (Entries h (n + 1)) (sym r) (go x came i)
     where
-      go : (y : Came) → CameOf f m y → y ≡ Came.Whole c → Entries h (n + 1) (added t c)
-      go (Came.Whole d) (whole w) j = with_entry (entry_with (length-take-le (min m entry_room) f (omega arith)) w)
+      go : (y : Result Class ℕ) → CameOf f m y → y ≡ Ok c → Entries h (n + 1) (added t c)
+      go (Ok d) (whole w) j = with_entry (entry_with (length-take-le (min m entry_room) f (omega arith)) w)
         where
-          same_class : {d : Class} → Came.Whole d ≡ Came.Whole c → d ≡ c
+          same_class : {d : Class} → ◌≡◌ {A = Result Class ℕ} (Ok d) (Ok c) → d ≡ c
           same_class q = ap class_in q
 
           with_entry : (b : List ℕ) × (length b ≡ m) × Falls b d → Entries h (n + 1) (added t c)
@@ -118,9 +119,34 @@ module _ {h : List ℕ} {n : ℕ} {t : Totals} (e : Entries h n t) where
               sized k l (inr d) =
                   let below : k < n = omega arith in
                   ap length (get_or-append e.all (b ∷ []) [] k (omega (arith, e.count))) ∙ e.sizes k below
-      go (Came.Cut k) came j = absurd (cut_not j)
+      go (Err k) came j = absurd (cut_not j)
 
 -- ---- how many bytes came
+
+none_not : {t : Totals} → ◌≡◌ {A = Option Totals} None (Some t) → ⊥
+none_not e = let z : ◌≡◌ {A = ℕ} 0 1 = ap has e in omega arith
+  where
+    has : Option Totals → ℕ
+    has None = 0
+    has (Some t) = 1
+
+whole_month : (h : List ℕ) (k : ℕ) (t : Totals) → Fits h k → Entries h (entries h) t → Gathered t 64
+    → MonthOf h (record { came = k; totals = Some t })
+whole_month h k t f all few =
+    record {
+      fits = λ e. f;
+      fails = λ z. absurd (none_not (sym z));
+      all = λ e. subst (Entries h (entries h)) (ap taken e) all;
+      gathered = λ u e. subst (λ (u : Totals). Gathered u 64) (ap taken e) few;
+    }
+  where
+    taken : Option Totals → Totals
+    taken None = t
+    taken (Some u) = u
+
+no_month : (h : List ℕ) (k : ℕ) → (Fits h k → ⊥) → MonthOf h (record { came = k; totals = None })
+no_month h k bad =
+    record { fits = λ e. absurd (none_not e); fails = λ z. bad; all = λ e. absurd (none_not e); gathered = λ t e. absurd (none_not e) }
 
 -- entries begin one after another
 rises : (h : List ℕ) → Contents h → (i j : ℕ) → i ≤ j → j ≤ entries h → due h i ≤ due h j
@@ -143,47 +169,39 @@ module _ (h : List ℕ) (n at m : ℕ) (fit : contents_fit h ≡ true) (below : 
   due_more = let here : offset h n ≡ due h n = ((contents_iff h).0 fit).offsets n below in rw (add-one n) (omega (arith, is, here, s))
 
   -- where the input ended in entry n, it is no bundle
-  pub month_cut : {t : Totals} (k : ℕ) → Entries h n t → k < m → MonthOf h (record { whole = false; came = at + k; totals = t })
-  month_cut {t} k e l =
+  pub month_cut : (k : ℕ) → k < m → MonthOf h (record { came = at + k; totals = None })
+  month_cut k l =
       let c = (contents_iff h).0 fit in
       let last = rises h c (n + 1) (entries h) (omega arith) (omega arith) in
-      record {
-        fits = λ z. absurd (false≢true z);
-        fails = λ z f. omega (arith, f.1, due_more, last);
-        all = λ z. absurd (false≢true z);
-        gathered = entries_all e (omega (arith, c.few));
-      }
+      no_month h (at + k) (λ f. omega (arith, f.1, due_more, last))
 
 -- all entries came, and so many bytes more
-pub month_ended : (h : List ℕ) (n at more : ℕ) {t : Totals} {x : Bool} → contents_fit h ≡ true → n ≡ entries h → at ≡ due h n → Entries h n t
-    → x ≡ eqb more 0 → MonthOf h (record { whole = x; came = at + more; totals = t })
+pub month_ended : (h : List ℕ) (n at more : ℕ) {t : Totals} {x : Option Totals} → contents_fit h ≡ true → n ≡ entries h → at ≡ due h n
+    → Entries h n t → x ≡ then_some (eqb more 0) t → MonthOf h (record { came = at + more; totals = x })
 month_ended h n at more {t} {x} fit all is e test =
-    let ends : at ≡ due h (entries h) = is ∙ ap (due h) all in
-    record {
-      fits = λ z. let none : more ≡ 0 = eqb-true more 0 (sym test ∙ z) in (fit, omega arith);
-      fails = λ z f. eqb-false more 0 (sym test ∙ z) (omega (arith, f.1));
-      all = λ z. subst (λ (k : ℕ). Entries h k t) all e;
-      gathered = entries_all e (omega (arith, ((contents_iff h).0 fit).few));
-    }
+    subst (λ (y : Option Totals). MonthOf h (record { came = at + more; totals = y })) (sym test) (go (eqb more 0) refl)
+  where
+    ends : at ≡ due h (entries h)
+    ends = is ∙ ap (due h) all
+
+    go : (y : Bool) → eqb more 0 ≡ y → MonthOf h (record { came = at + more; totals = then_some y t })
+    go true i =
+        let none : more ≡ 0 = eqb-true more 0 i in
+        whole_month h (at + more) t (fit, omega (arith, ends)) (subst (λ (k : ℕ). Entries h k t) all e)
+        (entries_all e (omega (arith, ((contents_iff h).0 fit).few)))
+    go false i = no_month h (at + more) (λ f. eqb-false more 0 i (omega (arith, ends, f.1)))
 
 -- the contents do not fit
-pub month_none : {h : List ℕ} {k : ℕ} {t : Totals} → contents_fit h ≡ false → t ≡ no_totals
-    → MonthOf h (record { whole = false; came = k; totals = t })
-month_none {h} {k} {t} bad e =
-    record {
-      fits = λ z. absurd (false≢true z);
-      fails = λ z f. false≢true (sym bad ∙ f.0);
-      all = λ z. absurd (false≢true z);
-      gathered = entries_all (subst (Entries h 0) (sym e) (entries_none h)) (omega arith);
-    }
+pub month_none : {h : List ℕ} {k : ℕ} → contents_fit h ≡ false → MonthOf h (record { came = k; totals = None })
+month_none {h} {k} bad = no_month h k (λ f. false≢true (sym bad ∙ f.0))
 
 -- what is said of it is what is to be printed
 pub month_told : {h text : List ℕ} {m : Month} → MonthOf h m → text ≡ told m → Told h m.came text
-month_told {h} {text} {m} o e = subst (Told h m.came) (sym e) (go m.whole refl)
+month_told {h} {text} {m} o e = subst (Told h m.came) (sym e) (go m.totals refl)
   where
-    go : (x : Bool) → m.whole ≡ x → Told h m.came (told m)
-    go true i = rw i (told_reported (o.fits i) (o.all i))
-    go false i = rw i (told_refused (o.fails i))
+    go : (x : Option Totals) → m.totals ≡ x → Told h m.came (told_of m.totals)
+    go (Some t) i = rw i (told_reported (o.fits i) (o.all i))
+    go None i = rw i (told_refused (o.fails i))
 
 -- ---- what is printed is what `Tells` asks for
 

@@ -1,10 +1,11 @@
 -- What is printed of a bundle: it is one text, and it is short.
 use Prim.Native.Nat.{ℕ, ◌+◌, ◌≤◌}
 use mathlib.Core.List.{List, ◌++◌}
-use mathlib.Core.Path.{◌≡◌, refl, sym, ap, subst}
+use mathlib.Core.Path.{◌≡◌, refl, ap}
 use native.Mathlib.Omega.{arith}
 use lib.ListN.{length, get_or, take, length-append}
 use Rattle.io.specs.Counts.{IsPrefixLen}
+use Rattle.std.specs.Prelude.{Option, Some, None}
 use Rattle.text.specs.PutText.{PutText}
 use Rattle.text.specs.Lines.{decimal}
 use Rattle.text.proofs.Digits.{decimal_length}
@@ -16,6 +17,8 @@ use Rattle.totals.specs.declared.tally.Totals.{Totals}
 use Rattle.totals.proofs.Falling.{wins_few}
 use Rattle.totals.proofs.Lists.{first_found, first_below}
 use Rattle.totals.proofs.Reporting.{reported_unique, few_counted, few_winning, few_pending}
+use Rattle.report.specs.declared.Month.{Month}
+use Rattle.report.specs.Read.{MonthGathered, told_of, told}
 use Rattle.report.specs.Report.{figure_line, count_lines, largest_line, report, Tells, refuses, reports}
 
 -- Two texts that may be printed of the same bytes are the same.
@@ -30,7 +33,7 @@ tells_unique (reports g r) (reports h s) = ap report (reported_unique r s)
 short_figure : (k n : ℕ) → length (decimal n) ≤ k → length (figure_line n) ≤ k + 1
 short_figure k n h = simp length-append (omega arith)
 
-short_largest : {bs : List (List ℕ)} {l : Largest} → length bs ≤ 64 → LargestOf bs l → length (largest_line l) ≤ 9
+short_largest : {bs : List (List ℕ)} {l : Option Largest} → length bs ≤ 64 → LargestOf bs l → length (largest_line l) ≤ 9
 short_largest h (nothing n) = omega arith
 short_largest h (number {n} {i} f m) =
     let (b, k, w) = first_found f in
@@ -50,11 +53,11 @@ short_report t g =
     let c = length-append (figure_line t.pending_sum) (largest_line t.largest) in
     omega arith
 
--- So in a buffer of 64 bytes the first n are the report.
-pub report_front : {t : Totals} {out left : List ℕ} {n : ℕ} → Gathered t 64 → 64 ≤ length out → PutText out 0 (report t) left n
-    → IsPrefixLen n left × (take n left ≡ report t)
-report_front {t} g room put = put_front put (omega (arith, short_report t g))
+short_told : (x : Option Totals) → ((t : Totals) → x ≡ Some t → Gathered t 64) → length (told_of x) ≤ 64
+short_told None g = omega arith
+short_told (Some t) g = short_report t (g t refl)
 
--- the largest x was matched as y
-pub largest_put : {x y : Largest} {l m : List ℕ} {at n : ℕ} → x ≡ y → PutText l at (largest_line y) m n → PutText l at (largest_line x) m n
-largest_put {l = l} {m} {at} {n} e put = subst (λ (z : Largest). PutText l at (largest_line z) m n) (sym e) put
+-- So in a buffer of 64 bytes the first n are what is told of the month.
+pub told_front : (m : Month) → MonthGathered m → {out left : List ℕ} {n : ℕ} → 64 ≤ length out → PutText out 0 (told m) left n
+    → IsPrefixLen n left × (take n left ≡ told m)
+told_front m g room put = put_front put (omega (arith, short_told m.totals g))

@@ -1,5 +1,5 @@
 -- What is printed of a bundle: document 02, request 13.
-use Rattle.std.specs.Prelude.{ℕ, List, [], ◌∷◌, ◌++◌, get_or}
+use Rattle.std.specs.Prelude.{ℕ, Option, Some, None, List, [], ◌∷◌, ◌++◌, get_or}
 use Rattle.game.specs.Below.{upto, each}
 use Rattle.text.specs.Lines.{decimal, bytes, line_of}
 use Rattle.totals.specs.Bundle.{Bundle, jobs}
@@ -16,9 +16,9 @@ abbrev pub count_lines : List ℕ → ℕ → List ℕ
 count_lines counts n = each (upto n) (λ k. figure_line (get_or counts k 0))
 
 -- the largest winning starting number and the first job that has it, or "-" alone where none wins
-abbrev pub largest_line : Largest → List ℕ
-largest_line Largest.Nothing = bytes "-\n"
-largest_line (Largest.Number n j) = line_of (decimal n) (decimal j ∷ [])
+abbrev pub largest_line : Option Largest → List ℕ
+largest_line None = bytes "-\n"
+largest_line (Some l) = line_of (decimal l.number) (decimal l.job ∷ [])
 
 -- the 14 lines: the counts that start winning, pending, losing, and those refused 1 to 6, 12 and 13; the sums; the largest
 abbrev pub report : Totals → List ℕ

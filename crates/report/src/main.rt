@@ -3,14 +3,15 @@
 
 ghost use Rattle.std.specs.Prelude.{◌+◌, ◌≤◌, min, true, ◌≡◌, length, take};
 ghost use Rattle.io.specs.Counts.{IsPrefixLen};
-ghost use Rattle.text.specs.PutText.{PutText};
+ghost use Rattle.text.specs.Puts.{Puts};
 ghost use Rattle.totals.specs.Classes.{entry_room};
-ghost use Rattle.totals.specs.Reported.{Gathered};
 ghost use Rattle.totals.specs.Bundle.{entries, contents_fit};
-ghost use Rattle.report.specs.Report.{figure_line, count_lines, largest_line, report, refused};
-ghost use Rattle.report.specs.Read.{CameOf, MonthOf, told, Told};
+ghost use Rattle.report.specs.Report.{figure_line, count_lines, largest_line, report};
+ghost use Rattle.report.specs.Read.{CameOf, MonthOf, MonthGathered, told, Told};
 
+use programs::input::read_up_to;
 use std::io::Read;
+use text::Line;
 use totals::bundle::CONTENTS_ROOM;
 use totals::class::{Class, ENTRY_ROOM};
 use totals::tally::{Largest, Totals};
@@ -19,87 +20,72 @@ use totals::tally::{Largest, Totals};
 const ROOM: usize = 64;
 
 // A line with one figure.
-fn put_figure(out: &mut [u8], at: usize, n: u32) -> usize
-    ensures { PutText out.old at (figure_line n) out.new result }
+fn put_figure(line: &mut Line<'_>, n: u32)
+    ensures { Puts line.old (figure_line n) line.new }
 {
-    let at = text::put_number(out, at, n);
-    text::put(out, at, b'\n')
+    line.put_number(n);
+    line.put(b'\n');
 }
 
 // The lines of the counts.
-fn put_counts(out: &mut [u8], at: usize, counts: [u32; 11]) -> usize
-    ensures { PutText out.old at (count_lines counts 11) out.new result }
+fn put_counts(line: &mut Line<'_>, counts: [u32; 11])
+    ensures { Puts line.old (count_lines counts 11) line.new }
 {
-    let mut next = at;
-    let mut i: usize = 0;
-    while i < 11 {
-        next = put_figure(out, next, counts[i]);
-        i += 1;
+    for &count in &counts {
+        put_figure(line, count);
     }
-    next
 }
 
 // The last line: the largest winning starting number and the first job that has it, or "-" where none wins.
-fn put_largest(out: &mut [u8], at: usize, largest: Largest) -> usize
-    ensures { PutText out.old at (largest_line largest) out.new result }
+fn put_largest(line: &mut Line<'_>, largest: Option<Largest>)
+    ensures { Puts line.old (largest_line largest) line.new }
 {
     match largest {
-        Largest::Nothing => text::put_word(out, at, b"-\n"),
-        Largest::Number { number, job } => {
-            let at = text::put_number(out, at, number as u32);
-            let at = text::put(out, at, b' ');
-            put_figure(out, at, job)
+        None => line.put_word(b"-\n"),
+        Some(most) => {
+            line.put_number(u32::from(most.number));
+            line.put(b' ');
+            put_figure(line, most.job);
         }
     }
 }
 
 // The whole report.
-fn put_report(out: &mut [u8], t: Totals) -> usize
-    ensures { PutText out.old 0 (report t) out.new result }
+fn put_report(line: &mut Line<'_>, t: Totals)
+    ensures { Puts line.old (report t) line.new }
 {
-    let counts = t.counts;
-    let largest = t.largest;
-    let at = put_counts(out, 0, counts);
-    let at = put_figure(out, at, t.winning_sum);
-    let at = put_figure(out, at, t.pending_sum);
-    put_largest(out, at, largest)
+    put_counts(line, t.counts);
+    put_figure(line, t.winning_sum);
+    put_figure(line, t.pending_sum);
+    put_largest(line, t.largest);
 }
 
-// The same in a buffer that has room for the totals of 64 jobs: its first bytes, as many as are answered, are the report.
-fn report_whole(out: &mut [u8; ROOM], t: Totals) -> usize
-    requires { Gathered t 64 }
-    ensures prefix_len { IsPrefixLen result out.new }
-    ensures out_after { take result out.new ≡ report t }
-{
-    put_report(out, t)
-}
-
-// Says 23, and nothing else.
-fn refusal_whole(out: &mut [u8; ROOM]) -> usize
-    ensures prefix_len { IsPrefixLen result out.new }
-    ensures out_after { take result out.new ≡ refused }
-{
-    text::put_word(out, 0, b"refused 23\n")
-}
-
-// What came of a bundle: whether it is one, how many of its bytes came, and the totals of the entries that came whole.
-#[derive(Clone, Copy)]
+// What came of a bundle: how many of its bytes came, and where it is one, the totals of its entries.
+#[derive(Clone, Copy, Debug, PartialEq, Eq)]
 struct Month {
-    whole: bool,
     came: u64,
-    totals: Totals,
+    totals: Option<Totals>,
 }
 
-// Puts what is to be printed of it at the beginning of the buffer: its first bytes, as many as are answered.
+// What is to be printed of it: the report, or 23 and nothing else.
+fn put_month(line: &mut Line<'_>, month: Month)
+    ensures { Puts line.old (told month) line.new }
+{
+    match month.totals {
+        Some(t) => put_report(line, t),
+        None => line.put_word(b"refused 23\n"),
+    }
+}
+
+// The same in a buffer that has room for the totals of 64 jobs: its first bytes, as many as are answered, are what is to be printed.
 fn tell(out: &mut [u8; ROOM], month: Month) -> usize
-    requires { Gathered month.totals 64 }
+    requires { MonthGathered month }
     ensures prefix_len { IsPrefixLen result out.new }
     ensures out_after { take result out.new ≡ told month }
 {
-    if month.whole {
-        return report_whole(out, month.totals);
-    }
-    refusal_whole(out)
+    let mut line = Line { bytes: out, at: 0 };
+    put_month(&mut line, month);
+    line.at
 }
 
 // Writes the text that is to be printed where these contents came, and so many bytes in all: what is handed over here is what the program prints.
@@ -113,27 +99,7 @@ fn print(rt: &impl Print, contents: &[u8], came: u64, text: &[u8])
 fn portion(size: u64) -> usize
     ensures { result ≡ min size entry_room }
 {
-    if size < ENTRY_ROOM as u64 {
-        return size as usize;
-    }
-    ENTRY_ROOM
-}
-
-// Reads until the buffer is full, the input ends or a read fails, and answers how many bytes stand at its beginning.
-fn read_full<R: Read>(input: &mut R, buffer: &mut [u8]) -> usize
-    ensures { IsPrefixLen result buffer.new }
-{
-    let mut done: usize = 0;
-    while done < buffer.len() {
-        let Ok(n) = input.read(&mut buffer[done..]) else {
-            return done;
-        };
-        if n == 0 {
-            return done;
-        }
-        done += n;
-    }
-    done
+    size.min(ENTRY_ROOM as u64) as usize
 }
 
 // Reads bytes of the input into a part of the buffer, and answers how many came.
@@ -142,7 +108,7 @@ fn read_between<R: Read>(input: &mut R, b: &mut [u8], from: usize, to: usize) ->
     requires to_in_bounds { to ≤ length b.old }
     ensures { from + result ≤ to }
 {
-    read_full(input, &mut b[from..to])
+    read_up_to(input, &mut b[from..to])
 }
 
 // Reads past so many bytes, and answers how many came. Of none the buffer stays as it is.
@@ -152,6 +118,7 @@ fn read_past<R: Read>(input: &mut R, job: &mut [u8], size: u64) -> u64
     ensures job_unchanged { size ≡ 0 → job.new ≡ job.old }
 {
     let mut past: u64 = 0;
+    // over what a read brought, not over an index
     while past < size {
         let n = portion(size - past);
         let came = read_between(input, job, 0, n);
@@ -163,30 +130,23 @@ fn read_past<R: Read>(input: &mut R, job: &mut [u8], size: u64) -> u64
     past
 }
 
-// What comes of an entry: its class, or how many of its bytes came before the input ended.
-#[derive(Clone, Copy)]
-enum Came {
-    Whole(Class),
-    Cut(u64),
-}
-
 // Reads an entry of this size: its first bytes are kept, as many as there is room for. Of a longer one the others are read past, over these,
-// since its bytes do not count.
-fn take_entry<R: Read>(input: &mut R, job: &mut [u8], size: u64) -> Came
+// since its bytes do not count. What comes of it is its class, or how many of its bytes came before the input ended.
+fn take_entry<R: Read>(input: &mut R, job: &mut [u8], size: u64) -> Result<Class, u64>
     requires { entry_room ≤ length job.old }
     ensures { CameOf job.new size result }
 {
     let n = portion(size);
     let first = read_between(input, job, 0, n);
     if first < n {
-        return Came::Cut(first as u64);
+        return Err(first as u64);
     }
     let more = size - n as u64;
     let past = read_past(input, job, more);
     if past < more {
-        return Came::Cut(n as u64 + past);
+        return Err(n as u64 + past);
     }
-    Came::Whole(totals::class::class_of(&job[..n], size))
+    Ok(totals::class::class_of(&job[..n], size))
 }
 
 // Asks for one byte after the last entry, and answers how many came.
@@ -206,29 +166,25 @@ fn take_entries<R: Read>(input: &mut R, job: &mut [u8], contents: &[u8], n: usiz
 {
     let mut t = totals::tally::none();
     let mut at = contents.len() as u64;
-    let mut i: usize = 0;
-    while i < n {
+    for i in 0..n {
         let size = totals::bundle::size_of(contents, i);
         match take_entry(input, job, size) {
-            Came::Cut(k) => {
+            Err(k) => {
                 return Month {
-                    whole: false,
                     came: at + k,
-                    totals: t,
+                    totals: None,
                 };
             }
-            Came::Whole(class) => {
+            Ok(class) => {
                 t = totals::tally::add(t, class);
                 at += size;
-                i += 1;
             }
         }
     }
     let more = read_more(input);
     Month {
-        whole: more == 0,
         came: at + more,
-        totals: t,
+        totals: (more == 0).then_some(t),
     }
 }
 
@@ -241,9 +197,8 @@ fn take_month<R: Read>(input: &mut R, job: &mut [u8], contents: &[u8]) -> Month
         return take_entries(input, job, contents, (contents.len() - 2) / 8);
     }
     Month {
-        whole: false,
         came: contents.len() as u64,
-        totals: totals::tally::none(),
+        totals: None,
     }
 }
 

@@ -7,8 +7,8 @@ use mathlib.Core.Path.{◌≡◌, refl, sym, ◌∙◌, ap, ap₂, subst}
 use native.Mathlib.Nat.{eq-or-lt_of_le, le_of_suc-le-suc}
 use native.Mathlib.Numerals.{add-one}
 use native.Mathlib.Omega.{arith}
-use lib.ListN.{length, get_or, take, drop, set, length-append, length-drop}
-use lib.Seq.{length-take-le, take_at, drop-append-add, drop-drop, get_or-drop, sets-eq, paste, paste-zero, paste-suc}
+use lib.ListN.{length, take, drop, set, length-append, length-drop}
+use lib.Seq.{length-take-le, take_at, drop-append-add, drop-drop, sets-eq, paste-zero}
 use Rattle.salvage.specs.Salvage.{gathered}
 use Rattle.rules.specs.Retold.{patched}
 use Rattle.salvage.specs.Passes.{Put}
@@ -53,25 +53,6 @@ put_more d e e' xs ys at h l g =
 
 pub put_1 : (d : List ℕ) (at x : ℕ) → at + 1 ≤ length d → set d at x ≡ patched d at (x ∷ [])
 put_1 d at x h = sets-eq (x ∷ []) d at h
-
--- ---- copying
-
-module _ (d job : List ℕ) (at from : ℕ) where
-  pub copy_none : d ≡ paste d at (drop from job) 0
-  copy_none = paste-zero d at (drop from job)
-
-  pub copy_more : (e : List ℕ) (i : ℕ) → e ≡ paste d at (drop from job) i → at + i < length d → from + i < length job
-      → set e (at + i) (get_or job (from + i) 0) ≡ paste d at (drop from job) (i + 1)
-  copy_more e i h l g =
-      let long : length (drop from job) ≡ length job - from = length-drop from job in
-      ap₂ (λ (u : List ℕ) (x : ℕ). set u (at + i) x) h (sym (get_or-drop from job i 0))
-      ∙ paste-suc d at (drop from job) i 0 l (omega arith)
-      ∙ ap (paste d at (drop from job)) (sym (add-one i))
-
-  pub copy_end : (e : List ℕ) (n : ℕ) → e ≡ paste d at (drop from job) n → from + n ≤ length job → e ≡ patched d at (take n (drop from job))
-  copy_end e n h g =
-      let long : length (drop from job) ≡ length job - from = length-drop from job in
-      h ∙ ap (λ (k : ℕ). take at d ++ take n (drop from job) ++ drop (at + k) d) (sym (length-take-le n (drop from job) (omega arith)))
 
 -- ---- what a pass has put
 

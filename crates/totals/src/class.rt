@@ -11,6 +11,7 @@ pub const ENTRY_ROOM: usize = 49152;
 // The longest plan.
 const PLAN_ROOM: usize = 4 * sets::places::ROOM;
 
+// No Result: of the four cases none is an error, and the report speaks of a refusal by its number.
 #[derive(Clone, Copy, Debug, PartialEq, Eq)]
 pub enum Class {
     Winning(u16),

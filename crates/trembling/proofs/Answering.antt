@@ -2,7 +2,7 @@
 use Prim.Native.Nat.{ℕ, suc, ◌+◌, ◌*◌, ◌≤◌, ◌<◌}
 use mathlib.Core.Bool.{true, false}
 use mathlib.Core.List.{List}
-use mathlib.Core.Path.{◌≡◌, sym, ap, ◌∙◌}
+use mathlib.Core.Path.{◌≡◌, ap, ◌∙◌}
 use native.Mathlib.Numerals.{add-one}
 use native.Mathlib.Omega.{arith}
 use borrow.Author.Tests.{ne_eqb, lt-ltb, le-ltb}
@@ -16,7 +16,6 @@ use Rattle.rules.specs.Plan.{entry, shaped}
 use Rattle.rules.specs.Fault.{only}
 use Rattle.rules.specs.Answers.{refusal_fault, advised_figures, ShapeOf}
 use Rattle.rules.specs.Calls.{refused_advice, advice_of}
-use Rattle.rules.specs.declared.answer.Advice.{Advice}
 use Rattle.rules.specs.declared.answer.Refusal.{Refusal}
 use Rattle.rules.specs.declared.answer.Value.{Value}
 use Rattle.game.specs.declared.entry.Entry.{Entry}

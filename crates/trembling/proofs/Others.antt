@@ -15,7 +15,7 @@ use Rattle.game.specs.Below.{some_below}
 use Rattle.rules.specs.Job.{Job, arena}
 use Rattle.rules.specs.declared.place.Place.{Place}
 use Rattle.std.specs.Prelude.{Option, Some, None}
-use Rattle.sets.proofs.Bits.{bit_none, bit_ones, below_or, same_or}
+use Rattle.sets.proofs.Bits.{bit_ones, below_or, same_or}
 use Rattle.game.proofs.Lists.{some, some_found, sure_some}
 use Rattle.game.proofs.Search.{clash, if_not_true}
 use Rattle.game.proofs.Tests.{same_test, and_iff, ltb_iff, some_iff}

@@ -1,5 +1,5 @@
 -- One round of a phase over the larger places, and round 0.
-use Rattle.std.specs.Prelude.{ℕ, ◌+◌, ◌*◌, ◌/◌, ◌%◌, ◌≤◌, ◌<◌, Bool, true, false, cond, not, ◌&&◌, List, ◌≡◌, length}
+use Rattle.std.specs.Prelude.{ℕ, ◌+◌, ◌*◌, ◌/◌, ◌%◌, ◌≤◌, ◌<◌, Bool, true, false, not, ◌&&◌, List, ◌≡◌, length}
 use Rattle.sets.specs.Sets.{member}
 use Rattle.game.specs.Game.{says}
 use Rattle.game.specs.Below.{some_below}

@@ -9,7 +9,8 @@ use job::layout::Layout;
 use phases::phase::Phase;
 
 // Rounds of the phase, from the set on, over all counts of slips at once: until one adds nothing or the set is full, so that the last round's
-// number is below the count of larger places. From no place no round adds one.
+// number is below the count of larger places. From no place no round adds one. How many there are is not
+// known before, so that this is no for.
 pub fn all_rounds(
     plan: &mut [u8],
     job: &[u8],

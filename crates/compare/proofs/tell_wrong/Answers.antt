@@ -20,15 +20,15 @@ read_entry-said-requires c =
 
 pub read_entry-right-requires : goal.read_entry-right-requires
 read_entry-right-requires c =
-    let d = planned_long (rw c.in-Done.is at c.plan.ensures) refl in
+    let d = planned_long (rw c.in-Ok.is at c.plan.ensures) refl in
     omega (arith, entry_inside c.requires.fit c.requires.checking, d, places_said c.requires.fit)
 
-pub returns-in-Refused : goal.returns-in-Refused
-returns-in-Refused c =
-    absurd (never_refused c.requires.fit c.args.plan.now c.in-Refused.why (rw c.in-Refused.is at c.plan.ensures)
+pub returns-in-Err : goal.returns-in-Err
+returns-in-Err c =
+    absurd (never_refused c.requires.fit c.args.plan.now c.in-Err.why (rw c.in-Err.is at c.plan.ensures)
     (omega (arith, few_places c.requires.fit)))
 
-pub returns-in-Done : goal.returns-in-Done
-returns-in-Done c =
-    told_wrong c.requires.fit c.requires.checking (rw c.in-Done.is at c.plan.ensures) c.read_entry-said.ensures
+pub returns-in-Ok : goal.returns-in-Ok
+returns-in-Ok c =
+    told_wrong c.requires.fit c.requires.checking (rw c.in-Ok.is at c.plan.ensures) c.read_entry-said.ensures
     c.read_entry-right.ensures c.put_wrong.ensures

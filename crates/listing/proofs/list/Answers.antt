@@ -7,24 +7,24 @@ use Rattle.listing.proofs.list.Goals as goal
 
 pub overflow_cast-l : goal.overflow_cast-l
 overflow_cast-l c =
-    let f = was_read c.args.job.now c.in-Job.is c.read.ensures in
+    let f = was_read c.args.job.now c.in-Ok-read.is c.read.ensures in
     omega (arith, few_states f)
 
-pub overflow_cast-l-in-Job : goal.overflow_cast-l-in-Job
-overflow_cast-l-in-Job c =
-    let f = was_read c.args.job.now c.in-Job.is c.read.ensures in
+pub overflow_cast-l-in-Ok-read : goal.overflow_cast-l-in-Ok-read
+overflow_cast-l-in-Ok-read c =
+    let f = was_read c.args.job.now c.in-Ok-read.is c.read.ensures in
     omega (arith, few_goals f)
 
-pub returns-in-Refused : goal.returns-in-Refused
-returns-in-Refused c =
-    printed_refusal c.plan.ensures c.in-Refused.is c.put_refusal.ensures
+pub returns-in-Err : goal.returns-in-Err
+returns-in-Err c =
+    printed_refusal c.plan.ensures c.in-Err.is c.put_refusal.ensures
 
-pub returns-in-Refused-read : goal.returns-in-Refused-read
-returns-in-Refused-read c =
-    read_planned c.plan.ensures c.in-Done.is c.in-Refused-read.is
+pub returns-in-Err-read : goal.returns-in-Err-read
+returns-in-Err-read c =
+    read_planned c.plan.ensures c.in-Ok.is c.in-Err-read.is
     c.read.ensures
 
-pub returns-in-Job : goal.returns-in-Job
-returns-in-Job c =
-    printed_listing c.plan.ensures c.in-Done.is c.in-Job.is
+pub returns-in-Ok-read : goal.returns-in-Ok-read
+returns-in-Ok-read c =
+    printed_listing c.plan.ensures c.in-Ok.is c.in-Ok-read.is
     c.read.ensures c.list_planned.ensures

@@ -1,12 +1,8 @@
 -- `put_largest` meets its contract, by whether some job wins.
-use Rattle.text.proofs.Putting.{put_then}
-use Rattle.report.proofs.Telling.{largest_put}
+use Rattle.text.proofs.Putting.{puts_then}
 use Rattle.report.proofs.put_largest.Goals as goal
 
-pub returns-in-Nothing : goal.returns-in-Nothing
-returns-in-Nothing c = largest_put c.in-Nothing.is c.put_word.ensures
-
-pub returns-in-Number : goal.returns-in-Number
-returns-in-Number c =
-    largest_put c.in-Number.is
-    (put_then c.put_number-at.ensures (put_then c.put-at.ensures c.put_figure.ensures))
+pub returns-in-Some : goal.returns-in-Some
+returns-in-Some c =
+    rw c.in-Some.is
+    (puts_then (rw c.from.ensures at c.put_number.ensures) (puts_then c.put.ensures c.put_figure.ensures))

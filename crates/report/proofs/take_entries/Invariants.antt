@@ -1,5 +1,5 @@
 -- `take_entries` meets its contract: a turn takes one entry more.
-use Prim.Native.Nat.{◌+◌, ◌-◌, ◌*◌, ◌≤◌}
+use Prim.Native.Nat.{◌+◌, ◌*◌, ◌≤◌}
 use mathlib.Core.Path.{◌≡◌}
 use lib.ListN.{length}
 use Rattle.totals.specs.Bundle.{due}
@@ -9,8 +9,5 @@ use Rattle.report.proofs.take_entries.Given as goal
 
 abbrev pub invariant-loop-i : goal.invariant-loop-i
 invariant-loop-i g l =
-    (l.i ≤ l.n) × ((entry_room ≤ length l.job) × ((length l.job ≡ length l.initial.job)
-    × (Entries l.contents l.i l.t × ((l.at ≡ due l.contents l.i) × (l.at ≤ 514 + 4294967296 * l.i)))))
-
-abbrev pub decreases-loop-i : goal.decreases-loop-i
-decreases-loop-i g l = l.n - l.i
+    (entry_room ≤ length l.job) × ((length l.job ≡ length l.initial.job)
+    × (Entries l.contents l.i l.t × ((l.at ≡ due l.contents l.i) × (l.at ≤ 514 + 4294967296 * l.i))))

@@ -22,4 +22,4 @@ take_entries-requires g c =
 
 pub returns : goal.returns
 returns g c =
-    month_none (sym c.contents_fit.ensures ∙ c.if-contents_fit.false) c.none.ensures
+    month_none (sym c.contents_fit.ensures ∙ c.if-contents_fit.false)

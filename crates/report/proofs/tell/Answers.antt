@@ -1,16 +1,12 @@
--- `tell` meets its contract: the report where the month is whole, and 23 where it is not.
+-- `tell` meets its contract: the buffer has room for every text.
+use Rattle.std.proofs.Common.{arith, length, rules, ◌≤◌}
+use Rattle.text.specs.PutText.{PutText}
+use Rattle.report.specs.Read.{told}
+use Rattle.report.proofs.Telling.{told_front}
 use Rattle.report.proofs.tell.Goals as goal
 
-pub returns-then-month : goal.returns-then-month
-returns-then-month c =
-    record {
-      prefix_len = c.report_whole.ensures.prefix_len;
-      out_after = rw c.if-month.true c.report_whole.ensures.out_after;
-    }
-
-pub returns : goal.returns
-returns c =
-    record {
-      prefix_len = c.refusal_whole.ensures.prefix_len;
-      out_after = rw c.if-month.false c.refusal_whole.ensures.out_after;
-    }
+pub returns-clause-out_after : goal.returns-clause-out_after
+returns-clause-out_after c =
+    let room : 64 ≤ length c.args.out.now = omega arith in
+    let put : PutText c.args.out.now 0 (told c.args.month) _ _ = search rules in
+    (told_front c.args.month c.requires room put).1

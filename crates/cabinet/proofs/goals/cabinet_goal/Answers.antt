@@ -5,13 +5,13 @@ use Rattle.cabinet.proofs.goals.cabinet_goal.Goals as goal
 
 pub overflow_cast-result : goal.overflow_cast-result
 overflow_cast-result c =
-    let w = rw c.in-Bytes.is at c.write_goal.ensures in
+    let w = rw c.in-Ok.is at c.write_goal.ensures in
     omega (arith, writing_few w)
 
-pub returns-in-Refused : goal.returns-in-Refused
-returns-in-Refused c =
-    let w = rw c.in-Refused.is at c.write_goal.ensures in
+pub returns-in-Err : goal.returns-in-Err
+returns-in-Err c =
+    let w = rw c.in-Err.is at c.write_goal.ensures in
     rw (← c.number.ensures) at w
 
-pub returns-in-Bytes : goal.returns-in-Bytes
-returns-in-Bytes c = rw c.in-Bytes.is at c.write_goal.ensures
+pub returns-in-Ok : goal.returns-in-Ok
+returns-in-Ok c = rw c.in-Ok.is at c.write_goal.ensures

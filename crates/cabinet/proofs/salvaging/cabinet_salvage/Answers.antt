@@ -16,18 +16,18 @@ by-figures {b} {job} {pairs} {job'} {pairs'} {f} {m} {n} p e g =
 
 pub overflow_cast-result : goal.overflow_cast-result
 overflow_cast-result c =
-    let p = rw c.in-Done.is at c.salvage.ensures in
+    let p = rw c.in-Ok.is at c.salvage.ensures in
     omega (arith, salvaging_short p)
 
-pub overflow_cast-result-in-Done : goal.overflow_cast-result-in-Done
-overflow_cast-result-in-Done c =
-    let p = rw c.in-Done.is at c.salvage.ensures in
+pub overflow_cast-result-in-Ok : goal.overflow_cast-result-in-Ok
+overflow_cast-result-in-Ok c =
+    let p = rw c.in-Ok.is at c.salvage.ensures in
     omega (arith, salvaging_short p)
 
-pub returns-in-Refused : goal.returns-in-Refused
-returns-in-Refused c =
-    let p = rw c.in-Refused.is at c.salvage.ensures in
+pub returns-in-Err : goal.returns-in-Err
+returns-in-Err c =
+    let p = rw c.in-Err.is at c.salvage.ensures in
     by-figures p c.number.ensures c.record.ensures
 
-pub returns-in-Done : goal.returns-in-Done
-returns-in-Done c = rw c.in-Done.is at c.salvage.ensures
+pub returns-in-Ok : goal.returns-in-Ok
+returns-in-Ok c = rw c.in-Ok.is at c.salvage.ensures

@@ -1,5 +1,5 @@
 -- `plan` meets its contract: what reading refuses is refused; of what it reads there is room or none, and then what labelling leaves.
-use mathlib.Core.Path.{sym, subst}
+use mathlib.Core.Path.{subst}
 use native.Mathlib.Omega.{arith}
 use Rattle.std.proofs.lemmas.Result.{err_from_is_err_and}
 use Rattle.rules.specs.Fault.{Fault}

@@ -1,5 +1,4 @@
 -- `range_end` meets its contract: the records passed are of states up to s.
-use Prim.Native.Nat.{◌-◌}
 use Rattle.rules.specs.Bytes.{said}
 use Rattle.labelling.proofs.Ranging.{Passing}
 use Rattle.labelling.proofs.range.range_end.Given as goal

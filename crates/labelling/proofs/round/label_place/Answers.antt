@@ -1,11 +1,9 @@
 -- `label_place` meets its contract: the place is in the old set, or has no action that the round looks for, or joins the set.
-use mathlib.Core.Path.{◌≡◌, ◌∙◌}
-use native.Mathlib.Omega.{arith}
-use Rattle.job.proofs.Asking.{few_states, few_goals}
-use Rattle.labelling.proofs.Rounding.{here_room, here_known, passed_old, passed_none, passed_new}
+use mathlib.Core.Path.{◌∙◌}
+use Rattle.labelling.proofs.Rounding.{here_known, passed_none, passed_new}
 use Rattle.labelling.proofs.round.label_place.Goals as goal
 
--- it joins: w writes the entry, u puts the place, a binds the action that d chose, t is past the test of the old set
+-- it joins
 pub returns-in-Some : goal.returns-in-Some
 returns-in-Some c =
     let p = c.requires in

@@ -1,9 +1,8 @@
 -- `label_state` meets its contract: each turn is the pass over one place more.
-use Prim.Native.Nat.{◌+◌, ◌*◌, ◌-◌}
+use Prim.Native.Nat.{◌+◌, ◌*◌}
 use mathlib.Core.Path.{◌≡◌}
 use native.Mathlib.Omega.{arith}
-use Rattle.phases.proofs.Passes.{pass_empty, pass_join}
-use Rattle.labelling.proofs.Rounding.{ready_on}
+use Rattle.phases.proofs.Passes.{pass_join}
 use Rattle.labelling.proofs.round.label_state.Goals as goal
 
 pub loop-q-preserved : goal.loop-q-preserved

@@ -1,5 +1,5 @@
 -- `label_state` meets its contract: each turn is the pass over one place more.
-use Prim.Native.Nat.{◌+◌, ◌*◌, ◌-◌, ◌≤◌}
+use Prim.Native.Nat.{◌+◌, ◌*◌}
 use Rattle.phases.specs.Round.{Passed}
 use Rattle.labelling.proofs.round.label_state.Given as goal
 

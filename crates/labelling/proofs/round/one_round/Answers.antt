@@ -1,16 +1,11 @@
 -- `one_round` meets its contract: each turn is the pass over the places of one state more.
-use Prim.Native.Nat.{◌-◌}
-use mathlib.Core.Path.{◌≡◌, ◌∙◌}
 use native.Mathlib.Omega.{arith}
-use borrow.Author.Rules.{rules}
-use Rattle.phases.proofs.Passes.{pass_empty, pass_join}
-use Rattle.labelling.proofs.Ranging.{from_start}
+use Rattle.phases.proofs.Passes.{pass_join}
 use Rattle.labelling.proofs.Rounding.{next_row}
 use Rattle.labelling.proofs.round.one_round.Goals as goal
 
 pub loop-s-preserved : goal.loop-s-preserved
 loop-s-preserved c =
-    -- c: the state's places are passed; c: the loop's head
     let l = c.args.l in
     let v = c.loop-s.invariant in (
       c.range_end-end.ensures.1,

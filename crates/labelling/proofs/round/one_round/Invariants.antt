@@ -1,11 +1,8 @@
 -- `one_round` meets its contract: each turn is the pass over the places of one state more.
-use Prim.Native.Nat.{◌*◌, ◌-◌, ◌≤◌}
-use mathlib.Core.Path.{◌≡◌}
-use lib.ListN.{length}
+use Prim.Native.Nat.{◌*◌}
 use Rattle.rules.specs.Bytes.{said}
 use Rattle.phases.specs.Round.{Passed}
 use Rattle.labelling.specs.Scan.{From}
-use Rattle.sets.specs.Sets.{set_words}
 use Rattle.labelling.proofs.round.one_round.Given as goal
 
 abbrev pub invariant-loop-s : goal.invariant-loop-s

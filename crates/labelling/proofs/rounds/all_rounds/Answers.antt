@@ -1,6 +1,6 @@
 -- `all_rounds` meets its contract: each turn of the loop makes one round, and the size of the set tells whether it added a place. Fewer places are
 -- then not yet in the set, so that the loop ends.
-use Prim.Native.Nat.{◌*◌, ◌≤◌, ◌<◌, ◌-◌}
+use Prim.Native.Nat.{◌*◌, ◌≤◌, ◌<◌}
 use mathlib.Core.Path.{refl, sym, ◌∙◌}
 use native.Mathlib.Omega.{arith}
 use Rattle.rules.specs.Bytes.{said}

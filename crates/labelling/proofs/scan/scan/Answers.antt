@@ -1,8 +1,8 @@
 -- `scan` meets its contract: the tally is that of the records passed.
-use Prim.Native.Nat.{◌-◌, ◌<◌}
+use Prim.Native.Nat.{◌<◌}
 use mathlib.Core.Path.{◌≡◌}
 use native.Mathlib.Omega.{arith}
-use Rattle.job.proofs.Asking.{records_said, outcome_below, action_few}
+use Rattle.job.proofs.Asking.{records_said, action_few}
 use Rattle.labelling.proofs.Ranging.{range_few, range_state}
 use Rattle.labelling.proofs.Scanning.{scanning_none, scanning_more, scanning_all}
 use Rattle.labelling.proofs.scan.scan.Goals as goal

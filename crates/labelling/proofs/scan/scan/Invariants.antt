@@ -1,5 +1,4 @@
 -- `scan` meets its contract: the tally is that of the records passed.
-use Prim.Native.Nat.{◌-◌, ◌≤◌}
 use Rattle.rules.specs.Job.{place}
 use Rattle.rules.specs.Bytes.{said}
 use Rattle.phases.specs.Wanted.{in_set}

@@ -1,7 +1,6 @@
 -- `begin` meets its contract: each turn is round 0 at one place more.
 use Prim.Native.Nat.{◌*◌}
 use mathlib.Core.Path.{◌≡◌, sym, ap}
-use native.Mathlib.Nat.{mod-lt, div-lt_iff_lt-mul}
 use native.Mathlib.Omega.{arith}
 use borrow.Author.Rules.{rules}
 use Rattle.job.proofs.Asking.{few_places, some_goals}

@@ -4,12 +4,9 @@ use native.Mathlib.Omega.{arith}
 use Rattle.rules.specs.Job.{is_from}
 use Rattle.rules.specs.Bytes.{said}
 use Rattle.rules.specs.declared.place.Move.{Move}
-use Rattle.salvage.proofs.Mending.{clear_none, clear_more, clear_bad, clear_ends}
+use Rattle.salvage.proofs.Mending.{clear_more, clear_bad, clear_ends}
 use Rattle.salvage.proofs.Pairing.{records_said, states_said}
 use Rattle.salvage.proofs.pairs.is_bad.Goals as goal
-
-pub loop-i-init : goal.loop-i-init
-loop-i-init c = clear_none (said c.args.job.now) c.args.begin
 
 pub returns-then-not-same_pair : goal.returns-then-not-same_pair
 returns-then-not-same_pair c =

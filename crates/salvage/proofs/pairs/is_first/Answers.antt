@@ -1,12 +1,9 @@
 -- `pairs::is_first` meets its contract: the record before tells.
-use mathlib.Core.Path.{◌≡◌, sym}
+use mathlib.Core.Path.{sym}
 use native.Mathlib.Omega.{arith}
 use Rattle.rules.specs.Bytes.{said}
 use Rattle.salvage.proofs.Pairing.{told_first, records_said}
 use Rattle.salvage.proofs.pairs.is_first.Goals as goal
-
-pub returns-then-k-eq0 : goal.returns-then-k-eq0
-returns-then-k-eq0 c = let e : c.args.k ≡ 0 = c.if-k-eq0.true in rw e
 
 pub returns : goal.returns
 returns c =

@@ -5,10 +5,6 @@ use Rattle.rules.specs.Bytes.{said}
 use Rattle.salvage.proofs.Pairing.{carried_same, records_said}
 use Rattle.salvage.proofs.pairs.look.Goals as goal
 
-pub returns-then-is_first : goal.returns-then-is_first
-returns-then-is_first c =
-    record { first_is = sym c.if-is_first.true ∙ c.is_first.ensures; bad_is = c.is_bad.ensures }
-
 pub returns : goal.returns
 returns c =
     let e = sym c.is_first.ensures ∙ c.if-is_first.false in

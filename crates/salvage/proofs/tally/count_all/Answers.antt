@@ -1,5 +1,4 @@
 -- `tally::count_all` meets its contract.
-use mathlib.Core.Path.{◌≡◌}
 use native.Mathlib.Omega.{arith}
 use Rattle.rules.proofs.Kept.{records_few}
 use Rattle.salvage.proofs.Pairing.{carried_none, carried_on, records_said, tallied_none, tallied_more, tallied_few}
@@ -21,8 +20,3 @@ loop-k-preserved c =
       carried_on b c.loop-k.k _ c.look-u.ensures.bad_is,
       tallied_more b c.loop-k.k c.loop-k.t _ _ c.loop-k.invariant.1 c.look-u.ensures c.added-t.ensures,
     )
-
-pub returns : goal.returns
-returns c =
-    let e : c.loop-k.k ≡ c.args.l.records = omega arith in
-    rw e at c.loop-k.invariant.1

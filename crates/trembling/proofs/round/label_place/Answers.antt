@@ -25,7 +25,7 @@ write_entry-requires c =
     let p = c.requires in
     here_room p.ready p.q_lt_goals
 
--- it joins: w writes the entry, u puts the place, a binds the action that d found, t is past the test of the old set
+-- it joins
 pub returns-in-Some : goal.returns-in-Some
 returns-in-Some c =
     let p = c.requires in

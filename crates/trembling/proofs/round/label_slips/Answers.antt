@@ -1,6 +1,6 @@
 -- `label_slips` meets its contract: each turn is the pass over the places of one state more.
 use Prim.Native.Nat.{◌+◌, ◌*◌}
-use mathlib.Core.Path.{◌≡◌, ◌∙◌, subst}
+use mathlib.Core.Path.{◌≡◌, subst}
 use native.Mathlib.Omega.{arith}
 use Rattle.phases.proofs.Passes.{pass_empty, pass_join}
 use Rattle.labelling.proofs.Ranging.{from_start}
@@ -20,7 +20,6 @@ range_end-end-requires c =
 
 pub label_state-requires : goal.label_state-requires
 label_state-requires c =
-    -- c: where the state's records end is known; c: a turn begins
     let v = c.loop-s.invariant in
     let p = c.requires in
     record {
@@ -33,7 +32,6 @@ label_state-requires c =
 
 pub loop-s-preserved : goal.loop-s-preserved
 loop-s-preserved c =
-    -- c: the state's places are passed; c: the loop's head
     let l = c.args.l in
     let v = c.loop-s.invariant in (
       c.range_end-end.ensures.1,

@@ -1,5 +1,5 @@
 -- `label_slips` meets its contract: each turn is the pass over the places of one state more.
-use Prim.Native.Nat.{◌+◌, ◌*◌, ◌-◌, ◌≤◌}
+use Prim.Native.Nat.{◌+◌, ◌*◌}
 use Rattle.rules.specs.Bytes.{said}
 use Rattle.labelling.specs.Scan.{From}
 use Rattle.trembling.specs.Round.{Passed}

@@ -1,8 +1,7 @@
 -- `one_round` meets its contract: each turn is the pass over the places with one slip more left.
 use Prim.Native.Nat.{◌+◌, ◌*◌}
-use mathlib.Core.Path.{◌≡◌, ◌∙◌}
+use mathlib.Core.Path.{◌≡◌}
 use native.Mathlib.Omega.{arith}
-use borrow.Author.Rules.{rules}
 use Rattle.phases.proofs.Passes.{pass_empty, pass_join}
 use Rattle.labelling.proofs.Rounding.{next_row}
 use Rattle.trembling.proofs.Rounding.{room_below}

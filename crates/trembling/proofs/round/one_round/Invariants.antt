@@ -1,8 +1,5 @@
 -- `one_round` meets its contract: each turn is the pass over the places with one slip more left.
-use Prim.Native.Nat.{◌+◌, ◌*◌, ◌-◌, ◌≤◌}
-use mathlib.Core.Path.{◌≡◌}
-use lib.ListN.{length}
-use Rattle.trembling.specs.Sets.{larger_words}
+use Prim.Native.Nat.{◌*◌}
 use Rattle.trembling.specs.Round.{Passed}
 use Rattle.trembling.proofs.round.one_round.Given as goal
 

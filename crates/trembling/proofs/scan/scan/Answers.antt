@@ -2,7 +2,7 @@
 use Prim.Native.Nat.{◌<◌}
 use mathlib.Core.Path.{◌≡◌}
 use native.Mathlib.Omega.{arith}
-use Rattle.job.proofs.Asking.{records_said, few_records, outcome_below, action_few}
+use Rattle.job.proofs.Asking.{records_said, outcome_below, action_few}
 use Rattle.labelling.proofs.Ranging.{range_few, range_state}
 use Rattle.labelling.proofs.Scanning.{scanning_none, scanning_more, scanning_all}
 use Rattle.trembling.proofs.Rounding.{inside_known}

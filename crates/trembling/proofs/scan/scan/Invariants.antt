@@ -1,5 +1,4 @@
 -- `scan::scan` meets its contract: both tallies are those of the records passed.
-use Prim.Native.Nat.{◌-◌, ◌≤◌}
 use Rattle.rules.specs.Job.{place}
 use Rattle.rules.specs.Bytes.{said}
 use Rattle.labelling.proofs.Scanning.{Scanning}
