@@ -4,6 +4,7 @@ ghost use Rattle.sets.specs.Sets.{bit};
 ghost use Rattle.lines.specs.Numbers.{has, Gains};
 
 // The numbers below 8·N, each in the set or not. It may be half a megabyte, so it is lent and never copied.
+#[derive(Drop)]
 pub struct Bits<const N: usize> {
     pub bytes: [u8; N],
 }
