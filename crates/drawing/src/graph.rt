@@ -4,9 +4,10 @@ ghost use Rattle.job.specs.Layout.{Fit};
 
 use crate::reach::{is_met, target};
 use game::entry::Entry;
-use job::layout::Layout;
+use lines::names::Names;
 use rules::answer::Value;
 use telling::names::{put_name, put_place};
+use telling::shown::Shown;
 use text::Line;
 
 // The beginning of a graph, with an arrow to the place of the start.
@@ -46,20 +47,11 @@ fn put_shape(line: &mut Line<'_>, e: Entry) {
 }
 
 // The beginning of the node of place i: its number, and the names of its state and its goal state.
-fn put_label(
-    line: &mut Line<'_>,
-    text: &[u8],
-    states: &[usize],
-    phrases: &[u8],
-    goals: &[usize],
-    i: usize,
-    s: usize,
-    q: usize,
-) {
+fn put_label(line: &mut Line<'_>, shown: Shown<'_>, i: usize, s: usize, q: usize) {
     line.put_word(b"  p");
     line.put_number((i % 65536) as u32);
     line.put_word(b" [label=\"");
-    put_place(line, text, states, phrases, goals, s, q, b"\\n");
+    put_place(line, shown.states, shown.goals, s, q, b"\\n");
 }
 
 // The end of a node, by the entry of its place.
@@ -71,30 +63,13 @@ fn put_entry(line: &mut Line<'_>, e: Entry) {
 }
 
 // The node of place i, or nothing where the plan has no such place.
-pub fn put_node(
-    line: &mut Line<'_>,
-    text: &[u8],
-    states: &[usize],
-    phrases: &[u8],
-    goals: &[usize],
-    l: Layout,
-    plan: &[u8],
-    i: usize,
-)
-    requires { 1 ≤ l.goals }
+pub fn put_node(line: &mut Line<'_>, shown: Shown<'_>, i: usize)
+    requires { 1 ≤ shown.layout.goals }
 {
-    if i < plan.len() / 4 {
-        let e = rules::entry::read_entry(plan, i);
-        put_label(
-            line,
-            text,
-            states,
-            phrases,
-            goals,
-            i,
-            i / l.goals,
-            i % l.goals,
-        );
+    if i < shown.plan.len() / 4 {
+        let e = rules::entry::read_entry(shown.plan, i);
+        let goals = shown.layout.goals;
+        put_label(line, shown, i, i / goals, i % goals);
         put_entry(line, e);
     }
 }
@@ -109,52 +84,34 @@ fn put_weight(line: &mut Line<'_>, own: bool) {
 }
 
 // The edge from one place to another by an action.
-fn put_edge(
-    line: &mut Line<'_>,
-    text: &[u8],
-    actions: &[usize],
-    i: usize,
-    j: usize,
-    action: usize,
-    own: bool,
-) {
+fn put_edge(line: &mut Line<'_>, actions: Names<'_>, i: usize, j: usize, action: usize, own: bool) {
     line.put_word(b"  p");
     line.put_number((i % 65536) as u32);
     line.put_word(b" -> p");
     line.put_number((j % 65536) as u32);
     line.put_word(b" [label=\"");
-    put_name(line, text, actions, action);
+    put_name(line, actions, action);
     put_weight(line, own);
 }
 
 // The edge of record k from place i, or nothing where it is no move from there. Where the goal is met a run ends.
-pub fn put_move(
-    line: &mut Line<'_>,
-    text: &[u8],
-    actions: &[usize],
-    job: &[u8],
-    l: Layout,
-    plan: &[u8],
-    i: usize,
-    k: usize,
-)
-    requires fit { Fit job.now l }
-    requires k_lt_records { k < l.records }
+pub fn put_move(line: &mut Line<'_>, shown: Shown<'_>, i: usize, k: usize)
+    requires fit { Fit shown.job.now shown.layout }
+    requires k_lt_records { k < shown.layout.records }
 {
-    if plan.len() / 4 <= i {
+    if shown.plan.len() / 4 <= i {
         return;
     }
-    let e = rules::entry::read_entry(plan, i);
-    let m = job::ask::move_at(job, l, k);
-    if is_met(e) || usize::from(m.state) != i / l.goals {
+    let e = rules::entry::read_entry(shown.plan, i);
+    let m = job::ask::move_at(shown.job, shown.layout, k);
+    if is_met(e) || usize::from(m.state) != i / shown.layout.goals {
         return;
     }
     put_edge(
         line,
-        text,
-        actions,
+        shown.actions,
         i,
-        target(job, l, i, k),
+        target(shown.job, shown.layout, i, k),
         usize::from(m.action),
         m.action == e.action,
     );
