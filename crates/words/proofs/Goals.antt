@@ -13,8 +13,9 @@ use Rattle.slips.proofs.Written.{written_body}
 use Rattle.text.specs.Lines.{bytes}
 use Rattle.text.specs.PutText.{PutText}
 use Rattle.lines.specs.Words.{lines}
-use Rattle.lines.specs.Names.{table}
-use Rattle.lines.proofs.Naming.{table_length}
+use Rattle.lines.specs.Tables.{names_of, count_of}
+use Rattle.lines.specs.declared.names.Names.{Names}
+use Rattle.lines.proofs.Tabling.{names_counted}
 use Rattle.aims.specs.Aims.{given, clauses_said}
 use Rattle.aims.proofs.Aiming.{put_short}
 use Rattle.rows.specs.Rows.{TableBody}
@@ -66,16 +67,16 @@ module _ {facts goals : List (List ℕ)} {t body : List ℕ} {p : ℕ} where
   clauses_aim {r = r} x h y = by_slips (subst (λ (s : List ℕ). Slipped s p body r) (put_short x h).0 y)
 
 -- where no clause is put, the goal is the table's
-pub table_aims : (t facts goals : List ℕ) (f g : ℕ) {before slip old body : List ℕ} {k : ℕ} {a : Aim}
-    → PutText before 0 (clauses_said (table t facts f) (lines t)) slip k → k ≡ 0 → 0 < length before
-    → TableWritten t facts goals f g old body a.size → a.goals ≡ g → a.first ≡ given (bytes "first") (table t goals g) (lines t)
-    → Aims (table t facts f) (table t goals g) t f body (Some a)
-table_aims t facts goals f g {slip = slip} {body = body} {a = a} x z h w eg e =
+pub table_aims : (t : List ℕ) (facts goals : Names) {before slip old body : List ℕ} {k : ℕ} {a : Aim}
+    → PutText before 0 (clauses_said (names_of facts) (lines t)) slip k → k ≡ 0 → 0 < length before
+    → TableWritten t facts goals old body a.size → a.goals ≡ count_of goals → a.first ≡ given (bytes "first") (names_of goals) (lines t)
+    → Aims (names_of facts) (names_of goals) t (count_of facts) body (Some a)
+table_aims t facts goals {slip = slip} {body = body} {a = a} x z h w eg e =
     aims
     (λ b ep eq y.
-    by_table none (eq ∙ (eg ∙ sym (table_length t goals 0 g))) (y.same_first ∙ e)
-    (subst (λ (k : ℕ). TableBody (table t facts f) (table t goals g) (lines t) k (goal_body b)) (sym ep)
-    (subst (TableBody (table t facts f) (table t goals g) (lines t) f) (sym y.same_body) w.body)))
+    by_table none (eq ∙ (eg ∙ sym (names_counted goals))) (y.same_first ∙ e)
+    (subst (λ (k : ℕ). TableBody (names_of facts) (names_of goals) (lines t) k (goal_body b)) (sym ep)
+    (subst (TableBody (names_of facts) (names_of goals) (lines t) (count_of facts)) (sym y.same_body) w.body)))
   where
-    none : clauses_said (table t facts f) (lines t) ≡ []
+    none : clauses_said (names_of facts) (lines t) ≡ []
     none = sym (put_short x (omega arith)).0 ∙ ap (λ (k : ℕ). take k slip) z

@@ -17,10 +17,8 @@ use Rattle.job.specs.declared.layout.Layout.{Layout}
 use Rattle.job.proofs.Asking.{states_said, actions_said, propositions_said, goals_said, records_said, form_said}
 use Rattle.text.specs.Lines.{bytes}
 use Rattle.lines.specs.Words.{lines}
-use Rattle.lines.specs.Names.{Lie, Holds, table, table_from, names}
 use Rattle.lines.specs.Numbers.{has, Gains}
 use Rattle.lines.specs.Says.{some_of, says_move, says_fact, number}
-use Rattle.lines.proofs.Naming.{table_length}
 use Rattle.meant.specs.Meant.{Meant}
 use Rattle.meant.specs.Aimed.{Aimed}
 use Rattle.aims.specs.Aims.{given}
@@ -109,86 +107,46 @@ same_job {b} {l = l} fit e form start goal m =
     }
 
 -- a job with the numbers, labels, moves and Goal body of a text has its start and its goal
-pub sounds_same : (t states : List ℕ) (s : ℕ) (actions facts goals : List ℕ) (g : ℕ) {z : Sizes} {labels moves body out : List ℕ} {w : Option Aim} {a : Aim}
-    {r : Result ℕ Faults} → Aims (table t facts z.facts) (table t goals g) t z.facts body w → w ≡ Some a
-    → z.goal ≡ a.size → z.goals ≡ a.goals → z.first ≡ a.first
-    → z.states ≡ s → whole (table t states s) (table t actions z.actions) (table t facts z.facts) (lines t) ≡ true
-    → z.start ≡ given (bytes "start") (table t states s) (lines t) → Sames z labels moves body out r
-    → Sounds (table t states s) (table t actions z.actions) (table t facts z.facts) (table t goals g) t labels moves out r
-sounds_same t states s actions facts goals g {z} {body = body} {a = a} x e en eg ef es ew eb y =
-    go (subst (Aims (table t facts z.facts) (table t goals g) t z.facts body) e x) y
+pub sounds_same : {t : List ℕ} {states actions facts goals : List (List ℕ)} {z : Sizes} {p : ℕ} {labels moves body out : List ℕ} {w : Option Aim} {a : Aim}
+    {r : Result ℕ Faults} → Aims facts goals t p body w → w ≡ Some a → z.goal ≡ a.size → z.goals ≡ a.goals → z.first ≡ a.first
+    → z.states ≡ length states → z.actions ≡ length actions → z.facts ≡ p → p ≡ length facts → whole states actions facts (lines t) ≡ true
+    → z.start ≡ given (bytes "start") states (lines t) → Sames z labels moves body out r → Sounds states actions facts goals t labels moves out r
+sounds_same {t} {states} {actions} {facts} {goals} {z} {p} {body = body} {a = a} x e en eg ef es ea ez efs ew eb y =
+    go (subst (Aims facts goals t p body) e x) y
   where
-    go : {labels moves out : List ℕ} {r : Result ℕ Faults}
-        → Aims (table t facts z.facts) (table t goals g) t z.facts body (Some a)
-        → Sames z labels moves body out r
-        → Sounds (table t states s) (table t actions z.actions) (table t facts z.facts) (table t goals g) t labels moves out r
+    go : {labels moves out : List ℕ} {r : Result ℕ Faults} → Aims facts goals t p body (Some a) → Sames z labels moves body out r
+        → Sounds states actions facts goals t labels moves out r
     go (aims f) (same h q) =
         sound h
         record {
           meant = q.meant;
-          of_states = q.of_states ∙ (es ∙ sym (table_length t states 0 s));
-          of_actions = q.of_actions ∙ sym (table_length t actions 0 z.actions);
-          of_facts = q.of_facts ∙ sym (table_length t facts 0 z.facts);
+          of_states = q.of_states ∙ es;
+          of_actions = q.of_actions ∙ ea;
+          of_facts = q.of_facts ∙ (ez ∙ efs);
           of_form = q.of_form;
           of_whole = ew;
           of_start = q.of_start ∙ eb;
-          of_goal = f _ q.of_facts (q.of_goals ∙ eg) (rw (sym en, sym ef) q.of_goal);
+          of_goal = f _ (q.of_facts ∙ ez) (q.of_goals ∙ eg) (rw (sym en, sym ef) q.of_goal);
         }
     go (aims f) other = blamed
 
--- ---- the word busy as a table of one name
-
-abbrev pub busy_text : List ℕ
-busy_text = 98 ∷ (117 ∷ (115 ∷ (121 ∷ [])))
-
-abbrev pub busy_spans : List ℕ
-busy_spans = 0 ∷ (4 ∷ [])
-
-pub busy_lies : Lie busy_text busy_spans 1
-busy_lies = record { room = omega arith; order = order; inside = inside }
-  where
-    order : (k : ℕ) → k < 1 → get_or busy_spans (2 * k) 0 ≤ get_or busy_spans (2 * k + 1) 0
-    order zero h = omega arith
-    order (suc k) h = absurd (omega arith)
-
-    inside : (k : ℕ) → k < 1 → get_or busy_spans (2 * k + 1) 0 ≤ length busy_text
-    inside zero h = omega arith
-    inside (suc k) h = absurd (omega arith)
-
-busy_table : table busy_text busy_spans 1 ≡ bytes "busy" ∷ []
-unfolding table_from
-busy_table = refl
-
 -- ---- from what was gathered to what the lines say
 
-pub turned_named : (t states : List ℕ) (s : ℕ) (actions : List ℕ) (a : ℕ) (facts : List ℕ) (f : ℕ) (goals : List ℕ) (g : ℕ)
-    {first labels moves out : List ℕ} {r : Result ℕ Faults}
-    → Gains (replicate 512 0) first (λ j. some_of (says_fact (table t states s) (table t facts f) 0 j) (lines t))
-    → Gains first labels (λ j. some_of (says_fact (table t states s) (table busy_text busy_spans 1) 7 j) (lines t))
-    → Gains (replicate 524288 0) moves (λ j. some_of (says_move (table t states s) (table t actions a) j) (lines t))
-    → Sounds (table t states s) (table t actions a) (table t facts f) (table t goals g) t labels moves out r
-    → Answers (table t states s) (table t actions a) (table t facts f) (table t goals g) t out r
-turned_named t states s actions a facts f goals g {labels = labels} k h m x =
+pub turned_named : (t : List ℕ) (states actions facts goals busy : List (List ℕ)) {first labels moves out : List ℕ} {r : Result ℕ Faults}
+    → Gains (replicate 512 0) first (λ j. some_of (says_fact states facts 0 j) (lines t))
+    → Gains first labels (λ j. some_of (says_fact states busy 7 j) (lines t)) → busy ≡ bytes "busy" ∷ []
+    → Gains (replicate 524288 0) moves (λ j. some_of (says_move states actions j) (lines t))
+    → Sounds states actions facts goals t labels moves out r → Answers states actions facts goals t out r
+turned_named t states actions facts goals busy {labels = labels} k h e m x =
     turned (gains_all 524288 m) said_labels x
   where
     said_labels : (j : ℕ) → has labels j
-        ≡ (some_of (says_fact (table t states s) (bytes "busy" ∷ []) 7 j) (lines t) || some_of (says_fact (table t states s) (table t facts f) 0 j) (lines t))
+        ≡ (some_of (says_fact states (bytes "busy" ∷ []) 7 j) (lines t) || some_of (says_fact states facts 0 j) (lines t))
     said_labels j =
         gains_both (gains_all 512 k) h j
-        ∙ ap (λ (ns : List (List ℕ)). some_of (says_fact (table t states s) ns 7 j) (lines t)
-        || some_of (says_fact (table t states s) (table t facts f) 0 j) (lines t)) busy_table
+        ∙ ap (λ (ns : List (List ℕ)). some_of (says_fact states ns 7 j) (lines t) || some_of (says_fact states facts 0 j) (lines t)) e
 
--- ---- the names of a table are those that the text lists
-
-pub held : (room : ℕ) (key : List ℕ) {t after : List ℕ} {n : ℕ} → Holds t (replicate room 0) after n (names (length {A = ℕ} (replicate room 0) / 2) key t)
-    → table t after n ≡ names (room / 2) key t
-held room key {t} h = h.holds ∙ ap (λ (k : ℕ). names (k / 2) key t) (length-replicate {A = ℕ} room 0)
-
-pub few : (room k : ℕ) {t after : List ℕ} {n : ℕ} {xs : List (List ℕ)} → room ≡ 2 * k → Holds t (replicate room 0) after n xs → n ≤ k
-few room k {after = after} {n = n} e h =
-    let r : 2 * n ≤ length after = h.lie.room in
-    let q : length after ≡ room = h.as_long ∙ length-replicate {A = ℕ} room 0 in
-    omega arith
+-- ---- the names are those that the text lists
 
 pub answered : {t out : List ℕ} {r : Result ℕ Faults} {s s' a a' f f' g g' : List (List ℕ)} → s ≡ s' → a ≡ a' → f ≡ f' → g ≡ g'
     → Answers s a f g t out r → Answers s' a' f' g' t out r

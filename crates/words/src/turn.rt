@@ -3,10 +3,8 @@ ghost use Rattle.std.specs.Prelude.{◌≡◌, true, ◌||◌, ltb, ◌≤◌, l
 ghost use Rattle.job.specs.Layout.{Fit};
 ghost use Rattle.job.specs.Forms.{named_form};
 ghost use Rattle.lines.specs.Words.{lines};
-ghost use Rattle.lines.specs.Names.{Lie, table};
+ghost use Rattle.lines.specs.Tables.{names_of};
 ghost use Rattle.whole.specs.Whole.{whole};
-ghost use Rattle.rows.specs.Cells.{Named};
-ghost use Rattle.phrases.specs.Tables.{Tables};
 ghost use Rattle.words.specs.Turned.{Answers, Told, state_names, action_names, fact_names, goal_names};
 ghost use Rattle.words.specs.Within.{Counted, Same, Sames, Sounds};
 
@@ -15,6 +13,9 @@ use faults::fault::Report;
 use job::form::Form;
 use job::layout::Layout;
 use laid::whole::Sizes;
+use lines::names::{List, Names, Span};
+use lines::says::{Facts, Moves};
+use phrases::tables::Tables;
 use text::Line;
 
 /// A text has faults, of which so many bytes are told.
@@ -54,10 +55,9 @@ fn is_form(l: Layout) -> bool
 }
 
 // Whether a job that was read is the one that was meant.
-fn is_meant(job: &[u8], l: Layout, z: Sizes, body: &[u8], labels: &[u8], moves: &[u8]) -> bool
-    requires fit { Fit job.now l }
-    requires labels_len { (length labels.now ≡ 512) × (length moves.now ≡ 524288) }
-    ensures { result ≡ true → Same z labels.now moves.now body.now job.now }
+fn is_meant(job: &[u8], l: Layout, z: Sizes, body: &[u8], labels: &Facts, moves: &Moves) -> bool
+    requires { Fit job.now l }
+    ensures { result ≡ true → Same z labels.now.bytes moves.now.bytes body.now job.now }
 {
     has_counts(l, z)
         && is_form(l)
@@ -67,9 +67,8 @@ fn is_meant(job: &[u8], l: Layout, z: Sizes, body: &[u8], labels: &[u8], moves: 
 }
 
 // Whether the bytes are a job, and the one that was meant.
-fn is_job(job: &[u8], z: Sizes, body: &[u8], labels: &[u8], moves: &[u8]) -> bool
-    requires { (length labels.now ≡ 512) × (length moves.now ≡ 524288) }
-    ensures { result ≡ true → Same z labels.now moves.now body.now job.now }
+fn is_job(job: &[u8], z: Sizes, body: &[u8], labels: &Facts, moves: &Moves) -> bool
+    ensures { result ≡ true → Same z labels.now.bytes moves.now.bytes body.now job.now }
 {
     match job::accept::read(job) {
         Ok(l) => is_meant(job, l, z, body, labels, moves),
@@ -78,8 +77,8 @@ fn is_job(job: &[u8], z: Sizes, body: &[u8], labels: &[u8], moves: &[u8]) -> boo
 }
 
 // Writes the job with these numbers; nothing where it has no room.
-fn write_job(out: &mut [u8], z: Sizes, body: &[u8], labels: &[u8], moves: &[u8]) -> usize
-    requires { (z.states ≤ 512) × (length labels.now ≡ 512) × (length moves.now ≡ 524288) }
+fn write_job(out: &mut [u8], z: Sizes, body: &[u8], labels: &Facts, moves: &Moves) -> usize
+    requires { z.states ≤ 512 }
 {
     if 8192 < z.moves || body.len() < z.goal {
         return 0;
@@ -93,11 +92,11 @@ fn finish(
     told: &mut [u8],
     z: Sizes,
     body: &[u8],
-    labels: &[u8],
-    moves: &[u8],
+    labels: &Facts,
+    moves: &Moves,
 ) -> Result<usize, Faults>
-    requires { (z.states ≤ 512) × (length labels.now ≡ 512) × (length moves.now ≡ 524288) }
-    ensures { Sames z labels.now moves.now body.now out.new result }
+    requires { z.states ≤ 512 }
+    ensures { Sames z labels.now.bytes moves.now.bytes body.now out.new result }
 {
     let n = write_job(out, z, body, labels, moves);
     if out.len() < n {
@@ -114,35 +113,28 @@ fn turn_whole(
     out: &mut [u8],
     told: &mut [u8],
     text: &[u8],
-    states: &[usize],
-    s: usize,
-    actions: &[usize],
-    a: usize,
-    facts: &[usize],
-    f: usize,
-    goals: &[usize],
-    g: usize,
-    labels: &[u8],
-    moves: &[u8],
+    names: Tables<'_>,
+    labels: &Facts,
+    moves: &Moves,
     n: usize,
 ) -> Result<usize, Faults>
-    requires lie { (Lie text.now states.now s) × (s ≤ 512) × (Named text.now facts.now goals.now f g) }
-    requires labels_len { (length labels.now ≡ 512) × (length moves.now ≡ 524288) }
-    requires text_value { whole (table text.now states.now s) (table text.now actions.now a) (table text.now facts.now f) (lines text.now) ≡ true }
-    ensures { Sounds (table text.now states.now s) (table text.now actions.now a)
-        (table text.now facts.now f)
-        (table text.now goals.now g) text.now labels.now moves.now out.new result }
+    requires { whole (names_of names.states) (names_of names.actions) (names_of names.facts) (lines text.now) ≡ true }
+    ensures { Sounds (names_of names.entry.states) (names_of names.entry.actions) (names_of names.entry.facts)
+        (names_of names.entry.goals) text.now labels.now.bytes moves.now.bytes out.new result }
 {
-    let start = aims::given(text, b"start", states, s).unwrap_or(s);
+    let states = names.states.len();
+    let actions = names.actions.len();
+    let facts = names.facts.len();
+    let start = aims::given(text, b"start", names.states).unwrap_or(states);
     let mut body = [0u8; 2080];
-    let Some(aim) = crate::goal::write_goal(&mut body, text, facts, f, goals, g) else {
+    let Some(aim) = crate::goal::write_goal(&mut body, text, names.facts, names.goals) else {
         return Err(blame(told));
     };
     let z = Sizes {
-        tall: laid::whole::is_tall(s, n),
-        states: s,
-        actions: a,
-        facts: f,
+        tall: laid::whole::is_tall(states, n),
+        states,
+        actions,
+        facts,
         goals: aim.goals,
         start,
         first: aim.first,
@@ -157,38 +149,32 @@ fn turn_said(
     out: &mut [u8],
     told: &mut [u8],
     text: &[u8],
-    states: &[usize],
-    s: usize,
-    actions: &[usize],
-    a: usize,
-    facts: &[usize],
-    f: usize,
-    goals: &[usize],
-    g: usize,
-    labels: &[u8],
-    moves: &[u8],
+    names: Tables<'_>,
+    labels: &Facts,
+    moves: &Moves,
 ) -> Result<usize, Faults>
-    requires tables { Tables text.now states.now s actions.now a facts.now f goals.now g }
-    requires labels_len { (length labels.now ≡ 512) × (length moves.now ≡ 524288) }
-    ensures { Sounds (table text.now states.now s) (table text.now actions.now a)
-        (table text.now facts.now f)
-        (table text.now goals.now g) text.now labels.now moves.now out.new result }
+    ensures { Sounds (names_of names.entry.states) (names_of names.entry.actions) (names_of names.entry.facts)
+        (names_of names.entry.goals) text.now labels.now.bytes moves.now.bytes out.new result }
 {
     let n = laid::whole::count(moves);
     let mut report = Report::new(told);
-    each_line::line::check_lines(&mut report, text, states, s, actions, a, facts, f, goals, g);
-    laid::lack::check_whole(&mut report, s, a, g, n);
+    each_line::line::check_lines(&mut report, text, names);
+    laid::lack::check_whole(
+        &mut report,
+        names.states.len(),
+        names.actions.len(),
+        names.goals.len(),
+        n,
+    );
     if report.is_faulty() {
         return Err(Faults {
             told: report.finish(),
         });
     }
-    if !whole::is_whole(text, states, s, actions, a, facts, f) {
+    if !whole::is_whole(text, names.states, names.actions, names.facts) {
         return Err(blame(told));
     }
-    turn_whole(
-        out, told, text, states, s, actions, a, facts, f, goals, g, labels, moves, n,
-    )
+    turn_whole(out, told, text, names, labels, moves, n)
 }
 
 // The same from the names that the text lists.
@@ -196,28 +182,21 @@ fn turn_named(
     out: &mut [u8],
     told: &mut [u8],
     text: &[u8],
-    states: &[usize],
-    s: usize,
-    actions: &[usize],
-    a: usize,
-    facts: &[usize],
-    f: usize,
-    goals: &[usize],
-    g: usize,
+    names: Tables<'_>,
 ) -> Result<usize, Faults>
-    requires { Tables text.now states.now s actions.now a facts.now f goals.now g }
-    ensures { Answers (table text.now states.now s) (table text.now actions.now a)
-        (table text.now facts.now f) (table text.now goals.now g) text.now out.new result }
+    ensures { Answers (names_of names.entry.states) (names_of names.entry.actions) (names_of names.entry.facts)
+        (names_of names.entry.goals) text.now out.new result }
 {
-    let mut labels = [0u8; 512];
-    lines::says::facts(&mut labels, text, states, s, text, facts, f, 0);
-    let busy: [usize; 2] = [0, 4];
-    lines::says::facts(&mut labels, text, states, s, b"busy", &busy, 1, 7);
-    let mut moves = [0u8; 524288];
-    lines::says::moves(&mut moves, text, states, s, actions, a);
-    turn_said(
-        out, told, text, states, s, actions, a, facts, f, goals, g, &labels, &moves,
-    )
+    let busy = Names {
+        text: b"busy",
+        spans: &[Span { start: 0, end: 4 }],
+    };
+    let mut labels = Facts { bytes: [0; 512] };
+    lines::says::facts(&mut labels, text, names.states, names.facts, 0);
+    lines::says::facts(&mut labels, text, names.states, busy, 7);
+    let mut moves = Moves { bytes: [0; 524288] };
+    lines::says::moves(&mut moves, text, names.states, names.actions);
+    turn_said(out, told, text, names, &labels, &moves)
 }
 
 // The same from the text alone.
@@ -225,17 +204,17 @@ fn turn_text(out: &mut [u8], told: &mut [u8], text: &[u8]) -> Result<usize, Faul
     ensures { Answers (state_names text.now) (action_names text.now) (fact_names text.now)
         (goal_names text.now) text.now out.new result }
 {
-    let mut states = [0usize; 1024];
-    let s = lines::names::list(&mut states, text, b"states");
-    let mut actions = [0usize; 32];
-    let a = lines::names::list(&mut actions, text, b"actions");
-    let mut facts = [0usize; 12];
-    let f = lines::names::list(&mut facts, text, b"facts");
-    let mut goals = [0usize; 64];
-    let g = lines::names::list(&mut goals, text, b"goal-states");
-    turn_named(
-        out, told, text, &states, s, &actions, a, &facts, f, &goals, g,
-    )
+    let states: List<512> = List::of(text, b"states");
+    let actions: List<16> = List::of(text, b"actions");
+    let facts: List<6> = List::of(text, b"facts");
+    let goals: List<32> = List::of(text, b"goal-states");
+    let names = Tables {
+        states: states.names(),
+        actions: actions.names(),
+        facts: facts.names(),
+        goals: goals.names(),
+    };
+    turn_named(out, told, text, names)
 }
 
 // What is told of faults; where nothing is told, or more than there is room for, the fault would lie in this program.

@@ -6,11 +6,7 @@ use Rattle.job.proofs.Readings.{read_fit}
 use Rattle.words.proofs.turn.is_job.Goals as goal
 
 pub is_meant-requires : goal.is_meant-requires
-is_meant-requires c =
-    record {
-      fit = read_fit _ _ (ap reading_figures (sym c.in-Ok.is) ∙ c.read.ensures);
-      labels_len = c.requires;
-    }
+is_meant-requires c = read_fit _ _ (ap reading_figures (sym c.in-Ok.is) ∙ c.read.ensures)
 
 pub returns-in-Err : goal.returns-in-Err
 returns-in-Err c = λ e. absurd (false≢true e)
