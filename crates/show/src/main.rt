@@ -8,8 +8,10 @@ ghost use Rattle.job.specs.Layout.{Fit};
 
 use drawing::reach::Moves;
 use job::layout::Layout;
+use lines::names::{List, Names, Span};
 use programs::files::Program;
 use rules::answer::Refusal;
+use telling::shown::Shown;
 use text::Line;
 
 // The longest text, the longest job that is written, the longest plan, and more than is told of a place.
@@ -39,89 +41,50 @@ fn write_line(rt: &impl Print, line: &Line<'_>) {
 }
 
 // The graph's edge from place i by record k, if it is a move from there.
-fn draw_move(
-    rt: &impl Print,
-    text: &[u8],
-    actions: &[usize],
-    job: &[u8],
-    l: Layout,
-    plan: &[u8],
-    i: usize,
-    k: usize,
-)
-    requires fit { Fit job.now l }
-    requires k_lt_records { k < l.records }
+fn draw_move(rt: &impl Print, shown: Shown<'_>, i: usize, k: usize)
+    requires fit { Fit shown.job.now shown.layout }
+    requires k_lt_records { k < shown.layout.records }
 {
     let mut out = [0u8; 512];
     let mut line = Line {
         bytes: &mut out,
         at: 0,
     };
-    drawing::graph::put_move(&mut line, text, actions, job, l, plan, i, k);
+    drawing::graph::put_move(&mut line, shown, i, k);
     write_line(rt, &line);
 }
 
 // The graph's edges from place i.
-fn draw_moves(
-    rt: &impl Print,
-    text: &[u8],
-    actions: &[usize],
-    job: &[u8],
-    l: Layout,
-    plan: &[u8],
-    i: usize,
-)
-    requires { Fit job.now l }
+fn draw_moves(rt: &impl Print, shown: Shown<'_>, i: usize)
+    requires { Fit shown.job.now shown.layout }
 {
-    let r = telling::range::of_state(job, l, i / l.goals);
+    let r = telling::range::of_state(shown.job, shown.layout, i / shown.layout.goals);
     for k in r.from..r.to {
-        draw_move(rt, text, actions, job, l, plan, i, k);
+        draw_move(rt, shown, i, k);
     }
 }
 
 // Place i as a node of the graph, with the edges from it.
-fn draw_place(
-    rt: &impl Print,
-    text: &[u8],
-    states: &[usize],
-    actions: &[usize],
-    phrases: &[u8],
-    goals: &[usize],
-    job: &[u8],
-    l: Layout,
-    plan: &[u8],
-    i: usize,
-)
-    requires fit { Fit job.now l }
-    requires job_in_bounds { 4 * places (said job.now) ≤ length plan.now }
+fn draw_place(rt: &impl Print, shown: Shown<'_>, i: usize)
+    requires fit { Fit shown.job.now shown.layout }
+    requires job_in_bounds { 4 * places (said shown.job.now) ≤ length shown.plan.now }
 {
     let mut out = [0u8; 1024];
     let mut line = Line {
         bytes: &mut out,
         at: 0,
     };
-    drawing::graph::put_node(&mut line, text, states, phrases, goals, l, plan, i);
+    drawing::graph::put_node(&mut line, shown, i);
     write_line(rt, &line);
-    draw_moves(rt, text, actions, job, l, plan, i);
+    draw_moves(rt, shown, i);
 }
 
 // Place i in words.
-fn tell_place(
-    rt: &impl Print,
-    text: &[u8],
-    states: &[usize],
-    actions: &[usize],
-    phrases: &[u8],
-    goals: &[usize],
-    job: &[u8],
-    l: Layout,
-    plan: &[u8],
-    i: usize,
-)
-    requires fit { Fit job.now l }
-    requires job_in_bounds { 4 * places (said job.now) ≤ length plan.now }
+fn tell_place(rt: &impl Print, shown: Shown<'_>, i: usize)
+    requires fit { Fit shown.job.now shown.layout }
+    requires job_in_bounds { 4 * places (said shown.job.now) ≤ length shown.plan.now }
 {
-    if plan.len() / 4 <= i {
+    if shown.plan.len() / 4 <= i {
         return;
     }
     let mut out = [0u8; OUT_ROOM];
@@ -129,9 +92,7 @@ fn tell_place(
         bytes: &mut out,
         at: 0,
     };
-    telling::told::tell_place(
-        &mut line, text, states, actions, phrases, goals, job, l, plan, i,
-    );
+    telling::told::tell_place(&mut line, shown, i);
     write_line(rt, &line);
 }
 
@@ -163,27 +124,13 @@ impl Showing {
     }
 
     // Place i.
-    fn place(
-        self,
-        rt: &impl Print,
-        text: &[u8],
-        states: &[usize],
-        actions: &[usize],
-        phrases: &[u8],
-        goals: &[usize],
-        job: &[u8],
-        l: Layout,
-        plan: &[u8],
-        i: usize,
-    )
-        requires fit { Fit job.now l }
-        requires job_in_bounds { 4 * places (said job.now) ≤ length plan.now }
+    fn place(self, rt: &impl Print, shown: Shown<'_>, i: usize)
+        requires fit { Fit shown.job.now shown.layout }
+        requires job_in_bounds { 4 * places (said shown.job.now) ≤ length shown.plan.now }
     {
         match self {
-            Showing::Told => tell_place(rt, text, states, actions, phrases, goals, job, l, plan, i),
-            Showing::Drawn => draw_place(
-                rt, text, states, actions, phrases, goals, job, l, plan, i,
-            ),
+            Showing::Told => tell_place(rt, shown, i),
+            Showing::Drawn => draw_place(rt, shown, i),
         }
     }
 
@@ -196,63 +143,73 @@ impl Showing {
 }
 
 // The plan of a job, with the names of its goal states.
-fn show_plan(
+fn show_plan<'a>(
     rt: &impl Print,
-    text: &[u8],
-    states: &[usize],
-    actions: &[usize],
-    phrases: &[u8],
-    goals: &[usize],
-    job: &[u8],
-    l: Layout,
-    plan: &[u8],
+    job: &'a [u8],
+    layout: Layout,
+    plan: &'a [u8],
+    states: Names<'a>,
+    actions: Names<'a>,
+    goals: Names<'a>,
     showing: Showing,
 )
-    requires fit { Fit job.now l }
+    requires fit { Fit job.now layout }
     requires job_in_bounds { 4 * places (said job.now) ≤ length plan.now }
 {
+    let shown = Shown {
+        job,
+        layout,
+        plan,
+        states,
+        actions,
+        goals,
+    };
     let mut queue = [0u16; drawing::reach::ROOM];
     let mut marks = [0u8; drawing::reach::ROOM];
-    let n = drawing::reach::reach(&mut queue, &mut marks, job, l, plan, showing.moves());
-    showing.begin(rt, plan, usize::from(queue[0]));
+    let n = drawing::reach::reach(
+        &mut queue,
+        &mut marks,
+        shown.job,
+        shown.layout,
+        shown.plan,
+        showing.moves(),
+    );
+    showing.begin(rt, shown.plan, usize::from(queue[0]));
     for &i in &queue[..n] {
-        showing.place(
-            rt,
-            text,
-            states,
-            actions,
-            phrases,
-            goals,
-            job,
-            l,
-            plan,
-            usize::from(i),
-        );
+        showing.place(rt, shown, usize::from(i));
     }
     showing.end(rt);
 }
 
 // The same with the names that the text lists, or where its goal is made of clauses, with what these have seen.
-fn show_named(rt: &impl Print, text: &[u8], job: &[u8], l: Layout, plan: &[u8], showing: Showing)
-    requires fit { Fit job.now l }
+fn show_named<'a>(
+    rt: &impl Print,
+    text: &'a [u8],
+    job: &'a [u8],
+    layout: Layout,
+    plan: &'a [u8],
+    showing: Showing,
+)
+    requires fit { Fit job.now layout }
     requires job_in_bounds { 4 * places (said job.now) ≤ length plan.now }
 {
-    let mut states = [0usize; 1024];
-    lines::names::list(&mut states, text, b"states");
-    let mut actions = [0usize; 32];
-    lines::names::list(&mut actions, text, b"actions");
-    let mut goals = [0usize; 64];
-    if 0 < lines::names::list(&mut goals, text, b"goal-states") {
-        show_plan(
-            rt, text, &states, &actions, text, &goals, job, l, plan, showing,
-        );
+    let states: List<512> = List::of(text, b"states");
+    let actions: List<16> = List::of(text, b"actions");
+    let goals: List<32> = List::of(text, b"goal-states");
+    let (states, actions) = (states.names(), actions.names());
+    if 0 < goals.len {
+        let goals = goals.names();
+        show_plan(rt, job, layout, plan, states, actions, goals, showing);
         return;
     }
     let mut phrases = [0u8; 8192];
-    seen::list(&mut phrases, &mut goals, text);
-    show_plan(
-        rt, text, &states, &actions, &phrases, &goals, job, l, plan, showing,
-    );
+    let mut spans = [Span { start: 0, end: 0 }; 32];
+    seen::list(&mut phrases, &mut spans, text);
+    let told = Names {
+        text: &phrases,
+        spans: &spans,
+    };
+    show_plan(rt, job, layout, plan, states, actions, told, showing);
 }
 
 // Plans a job that is read.
