@@ -4,9 +4,8 @@ ghost use Rattle.job.specs.Layout.{Fit};
 
 use crate::reach::{is_met, target};
 use game::entry::Entry;
-use lines::names::Names;
 use rules::answer::Value;
-use telling::names::{put_name, put_place};
+use telling::names::{Table, put_name, put_place};
 use telling::shown::Shown;
 use text::Line;
 
@@ -84,7 +83,7 @@ fn put_weight(line: &mut Line<'_>, own: bool) {
 }
 
 // The edge from one place to another by an action.
-fn put_edge(line: &mut Line<'_>, actions: Names<'_>, i: usize, j: usize, action: usize, own: bool) {
+fn put_edge(line: &mut Line<'_>, actions: Table<'_>, i: usize, j: usize, action: usize, own: bool) {
     line.put_word(b"  p");
     line.put_number((i % 65536) as u32);
     line.put_word(b" -> p");

@@ -1,13 +1,22 @@
 -- The texts that are told of a place.
-use Rattle.std.specs.Prelude.{ℕ, cond, List, [], ◌∷◌, ◌++◌, eqb, get_or}
+use Rattle.std.specs.Prelude.{ℕ, cond, List, [], ◌∷◌, ◌++◌, eqb, leb, ltb, length, get_or}
 use Rattle.game.specs.declared.entry.Entry.{Entry}
 use Rattle.text.specs.Lines.{decimal, bytes}
-use Rattle.lines.specs.Tables.{names_of}
-use Rattle.lines.specs.declared.names.Names.{Names}
+use Rattle.lines.specs.Words.{part}
+use Rattle.lines.specs.declared.names.Span.{Span}
+use Rattle.telling.specs.declared.names.Table.{Table}
 
--- the name k, and nothing where there is none
-abbrev pub named : Names → ℕ → List ℕ
-named n k = get_or (names_of n) k []
+-- where a table says that name k stands
+abbrev pub stands : Table → ℕ → Span
+stands t k = get_or t.spans.now k (record { start = 0; end = 0 })
+
+-- name k of a table, and nothing where it does not lie in the text
+abbrev pub named : Table → ℕ → List ℕ
+named t k =
+    cond (leb (length t.spans.now) k) []
+    (cond (ltb (stands t k).end (stands t k).start) []
+    (cond (ltb (length t.text.now) (stands t k).end) []
+    (part t.text.now (stands t k).start (stands t k).end)))
 
 -- what stands between them in a line
 abbrev pub comma : List ℕ

@@ -1,24 +1,47 @@
-// Names put in a line: one of a text's, and those of a place.
+// Names put in a line: that of a table, and those of a place.
+ghost use Rattle.std.specs.Prelude.{◌≡◌};
 ghost use Rattle.text.specs.Puts.{Puts};
 ghost use Rattle.telling.specs.Lines.{named, place_text};
 
-use lines::names::Names;
+use lines::names::{Names, Span};
 use text::Line;
 
-// The name k, or nothing where there is none.
-pub fn put_name(line: &mut Line<'_>, names: Names<'_>, k: usize)
-    ensures { Puts line.old (named names.entry k) line.new }
+// Where a table says that names stand in a text. It may name places that don't lie there: nothing is told of these.
+#[derive(Clone, Copy, Debug)]
+pub struct Table<'a> {
+    pub text: &'a [u8],
+    pub spans: &'a [Span],
+}
+
+impl<'a> Table<'a> {
+    // The table of names that all lie in their text.
+    pub fn of(names: Names<'a>) -> Table<'a>
+        ensures { (result.text.now ≡ names.entry.text.now) × (result.spans.now ≡ names.entry.spans.now) }
+    {
+        Table {
+            text: names.text,
+            spans: names.spans,
+        }
+    }
+}
+
+// Name k of a table, or nothing where it does not lie in the text.
+pub fn put_name(line: &mut Line<'_>, table: Table<'_>, k: usize)
+    ensures { Puts line.old (named table.entry k) line.new }
 {
-    if k < names.len() {
-        line.put_word(names.get(k));
+    if k < table.spans.len() {
+        let s = table.spans[k];
+        if s.start <= s.end && s.end <= table.text.len() {
+            line.put_word(&table.text[s.start..s.end]);
+        }
     }
 }
 
 // A place: its state and its goal state, something between them.
 pub fn put_place(
     line: &mut Line<'_>,
-    states: Names<'_>,
-    goals: Names<'_>,
+    states: Table<'_>,
+    goals: Table<'_>,
     s: usize,
     q: usize,
     between: &[u8],

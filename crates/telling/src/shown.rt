@@ -1,6 +1,6 @@
 // What is shown: a job, a plan, and the names by which these are told.
+use crate::names::Table;
 use job::layout::Layout;
-use lines::names::Names;
 
 // A job with its layout, a plan, and the names of the job's states, actions and goal states. Those of the goal states may stand in a text of their own.
 #[derive(Clone, Copy, Debug)]
@@ -8,7 +8,7 @@ pub struct Shown<'a> {
     pub job: &'a [u8],
     pub layout: Layout,
     pub plan: &'a [u8],
-    pub states: Names<'a>,
-    pub actions: Names<'a>,
-    pub goals: Names<'a>,
+    pub states: Table<'a>,
+    pub actions: Table<'a>,
+    pub goals: Table<'a>,
 }

@@ -8,11 +8,10 @@ ghost use Rattle.text.specs.Puts.{Puts};
 ghost use Rattle.telling.specs.Lines.{named, comma, place_text, moves_text, advice_text, spoilt_text, spoiler_line, outlook_text};
 ghost use Rattle.telling.specs.Told.{told_entry, told_spoiler, told_action, told_actions, told_why, told_place};
 
-use crate::names::{put_name, put_place};
+use crate::names::{Table, put_name, put_place};
 use crate::shown::Shown;
 use crate::spoil::{entry_entered, worst};
 use game::entry::Entry;
-use lines::names::Names;
 use rules::answer::Value;
 use text::Line;
 
@@ -29,7 +28,7 @@ fn put_moves(line: &mut Line<'_>, n: u16)
 }
 
 // What the plan says at a place, by its entry.
-fn put_advice(line: &mut Line<'_>, actions: Names<'_>, e: Entry)
+fn put_advice(line: &mut Line<'_>, actions: Table<'_>, e: Entry)
     ensures { Puts line.old
         (advice_text (named actions.entry e.action) e)
         line.new }
