@@ -8,9 +8,10 @@ ghost use Rattle.job.specs.Layout.{Fit};
 
 use drawing::reach::Moves;
 use job::layout::Layout;
-use lines::names::{List, Names, Span};
+use lines::names::{List, Span};
 use programs::files::Program;
 use rules::answer::Refusal;
+use telling::names::Table;
 use telling::shown::Shown;
 use text::Line;
 
@@ -148,9 +149,9 @@ fn show_plan<'a>(
     job: &'a [u8],
     layout: Layout,
     plan: &'a [u8],
-    states: Names<'a>,
-    actions: Names<'a>,
-    goals: Names<'a>,
+    states: Table<'a>,
+    actions: Table<'a>,
+    goals: Table<'a>,
     showing: Showing,
 )
     requires fit { Fit job.now layout }
@@ -196,16 +197,16 @@ fn show_named<'a>(
     let states: List<512> = List::of(text, b"states");
     let actions: List<16> = List::of(text, b"actions");
     let goals: List<32> = List::of(text, b"goal-states");
-    let (states, actions) = (states.names(), actions.names());
+    let (states, actions) = (Table::of(states.names()), Table::of(actions.names()));
     if 0 < goals.len {
-        let goals = goals.names();
+        let goals = Table::of(goals.names());
         show_plan(rt, job, layout, plan, states, actions, goals, showing);
         return;
     }
     let mut phrases = [0u8; 8192];
     let mut spans = [Span { start: 0, end: 0 }; 32];
     seen::list(&mut phrases, &mut spans, text);
-    let told = Names {
+    let told = Table {
         text: &phrases,
         spans: &spans,
     };
