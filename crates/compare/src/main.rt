@@ -91,7 +91,9 @@ fn tell(line: &mut Line<'_>, job: &[u8], plan: &[u8])
     }
 }
 
-// The same in a buffer that has room for every line: its first bytes, as many as are answered, are what is to be printed.
+// The same in a buffer that has room for every line: its first bytes, as many as are answered, are what is to be printed. It has a frame of its own:
+// where no files are read, the room of the check takes no stack.
+#[inline(never)]
 fn tell_whole(out: &mut [u8; ROOM], job: &[u8], plan: &[u8]) -> usize
     ensures prefix_len { IsPrefixLen result out.new }
     ensures tells { Tells job.now plan.now (take result out.new) }

@@ -63,7 +63,7 @@ fn plain_line(
     if after.next().is_some_and(|three| three.is(b"->")) {
         move_line(report, one, two, after, tables);
     } else {
-        clause_line(report, one, two, line, tables);
+        clause_line(report, one, two, line, tables.states, tables.facts);
     }
 }
 

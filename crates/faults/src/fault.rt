@@ -1,4 +1,7 @@
 // Faults of a text, told in lines: the line's number, what is wrong, and the word at fault.
+ghost use Rattle.std.specs.Prelude.{◌≡◌};
+ghost use Rattle.faults.specs.Telling.{shown};
+
 use lines::names::{List, Names};
 use text::Line;
 
@@ -39,9 +42,10 @@ impl<'a> Report<'a> {
 }
 
 impl Report<'_> {
-    ghost use Rattle.std.specs.Prelude.{◌≡◌, false, ◌||◌, ltb};
+    ghost use Rattle.std.specs.Prelude.{◌≡◌, false, ◌||◌, ltb, [], map};
     ghost use Rattle.text.specs.Puts.{Puts};
     ghost use Rattle.faults.specs.Telling.{is_full, one_more, Counts, line_number, fault_line, more_line};
+    ghost use Rattle.faults.specs.Telling.{shown, points, quoted, whole_line, word_line, unknown_line, Begins, Misnamed};
 
     /// Goes to the next line.
     pub fn next_line(&mut self)
@@ -75,25 +79,41 @@ impl Report<'_> {
         self.told.put_word(b": ");
     }
 
-    // A word between quotes; of a long one its first 64 letters.
-    fn put_quoted(&mut self, word: &[u8])
+    // Letters, each as it is shown.
+    fn put_shown(&mut self, letters: &[u8])
         ensures more { self.new.more ≡ self.old.more }
-        ensures same_buffer { self.new.told.bytes.ghost_name ≡ self.old.told.bytes.ghost_name }
+        ensures letters { Puts self.old.told (map shown letters.now) self.new.told }
     {
-        self.told.put(b'\'');
-        for &byte in &word[..word.len().min(64)] {
+        for &byte in letters {
             self.told.put(shown(byte));
         }
+    }
+
+    // Two points, where a word has more than the 64 letters that are shown.
+    fn put_points(&mut self, word: &[u8])
+        ensures more { self.new.more ≡ self.old.more }
+        ensures points { Puts self.old.told (points word.now) self.new.told }
+    {
         if 64 < word.len() {
             self.told.put_word(b"..");
         }
+    }
+
+    // A word between quotes; of a long one its first 64 letters.
+    fn put_quoted(&mut self, word: &[u8])
+        ensures more { self.new.more ≡ self.old.more }
+        ensures word { Puts self.old.told (quoted word.now) self.new.told }
+    {
+        self.told.put(b'\'');
+        self.put_shown(&word[..word.len().min(64)]);
+        self.put_points(word);
         self.told.put(b'\'');
     }
 
     // The name that the word may stand for, if one is near.
     fn put_near(&mut self, word: &[u8], names: Names<'_>)
         ensures more { self.new.more ≡ self.old.more }
-        ensures same_buffer { self.new.told.bytes.ghost_name ≡ self.old.told.bytes.ghost_name }
+        ensures near { Begins self.old.told [] self.new.told }
     {
         if let Some(k) = crate::near::nearest(names, word) {
             self.told.put_word(b"; did you mean ");
@@ -105,6 +125,7 @@ impl Report<'_> {
     /// Tells a fault of no line: that the text lacks something, or has too much of it.
     pub fn tell_whole(&mut self, lack: &[u8])
         ensures counted { Counts self.old self.new }
+        ensures told { is_full self.old ≡ false → Puts self.old.told (whole_line lack.now) self.new.told }
     {
         if self.is_full() {
             return self.count();
@@ -129,6 +150,7 @@ impl Report<'_> {
     /// Tells a fault of a word, between what stands before it and after it.
     pub fn tell_word(&mut self, before: &[u8], word: &[u8], after: &[u8])
         ensures counted { Counts self.old self.new }
+        ensures told { is_full self.old ≡ false → Puts self.old.told (word_line self.old.number before.now word.now after.now) self.new.told }
     {
         if self.is_full() {
             return self.count();
@@ -143,6 +165,7 @@ impl Report<'_> {
     /// Tells that a word names none of its kind.
     pub fn tell_unknown(&mut self, kind: &[u8], word: &[u8], names: Names<'_>)
         ensures counted { Counts self.old self.new }
+        ensures told { is_full self.old ≡ false → Begins self.old.told (unknown_line self.old.number kind.now word.now) self.new.told }
     {
         if self.is_full() {
             return self.count();
@@ -159,6 +182,7 @@ impl Report<'_> {
     // Tells that a word names no key, if a key of the list is near, and otherwise that it names no goal state.
     fn tell_key_or(&mut self, word: &[u8], goals: Names<'_>, list: &[u8])
         ensures counted { Counts self.old self.new }
+        ensures told { is_full self.old ≡ false → Misnamed self.old.told self.old.number word.now self.new.told }
     {
         let list: List<16> = List::of(list, b"keys");
         let keys = list.names();
@@ -172,6 +196,7 @@ impl Report<'_> {
     /// Tells that a word before a colon names no goal state, or no key where only a key is near.
     pub fn tell_no_key(&mut self, word: &[u8], goals: Names<'_>)
         ensures counted { Counts self.old self.new }
+        ensures told { is_full self.old ≡ false → Misnamed self.old.told self.old.number word.now self.new.told }
     {
         if crate::near::nearest(goals, word).is_some() {
             self.tell_unknown(b"goal state", word, goals);
@@ -207,7 +232,9 @@ impl Report<'_> {
 }
 
 // A byte of a word as it is shown: what is no plain letter is shown as a question mark.
-fn shown(byte: u8) -> u8 {
+fn shown(byte: u8) -> u8
+    ensures { result ≡ shown byte }
+{
     match byte {
         33..=126 => byte,
         _ => b'?',

@@ -3,7 +3,6 @@ use faults::fault::Report;
 use lines::line::{Word, Words};
 use lines::names::Names;
 use phrases::list::{check_known, expect_end};
-use phrases::tables::Tables;
 
 // One clause more, once its line's other faults are told.
 fn count_clause(report: &mut Report<'_>) {
@@ -75,12 +74,13 @@ pub fn clause_line(
     one: Word<'_>,
     two: Word<'_>,
     rest: Words<'_>,
-    tables: Tables<'_>,
+    states: Names<'_>,
+    facts: Names<'_>,
 ) {
     match one.bytes() {
-        b"eventually" | b"never" => clause_of_one(report, two, rest, tables.facts),
-        b"whenever" => whenever_line(report, two, rest, tables.facts),
-        _ if two.is(b"before") => before_line(report, one, rest, tables.facts),
-        other => lost_line(report, other, rest, tables.states),
+        b"eventually" | b"never" => clause_of_one(report, two, rest, facts),
+        b"whenever" => whenever_line(report, two, rest, facts),
+        _ if two.is(b"before") => before_line(report, one, rest, facts),
+        other => lost_line(report, other, rest, states),
     }
 }

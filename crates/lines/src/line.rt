@@ -51,6 +51,7 @@ impl<'a> Words<'a> {
     ghost use Rattle.lines.specs.Steps.{AfterKey};
 
     // The words after a key and a colon, if the line begins with these.
+    #[inline(always)]
     pub fn after_key(self, key: &[u8]) -> Option<Words<'a>>
         ensures { AfterKey key.now self.entry result }
     {
@@ -74,6 +75,7 @@ impl<'a> Iterator for Words<'a> {
 
     ghost remaining = { item_count words_left };
 
+    #[inline(always)]
     fn next(&mut self) -> Option<Word<'a>> {
         let w = next_word(self.text, self.at);
         if w.start == w.end {
@@ -107,6 +109,7 @@ impl<'a> Iterator for Lines<'a> {
 
     ghost remaining = { item_count lines_left };
 
+    #[inline(always)]
     fn next(&mut self) -> Option<Words<'a>> {
         if self.text.len() < self.at {
             return None;

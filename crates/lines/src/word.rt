@@ -19,6 +19,7 @@ pub enum Class {
 impl From<u8> for Class {
     ghost from_gives = { λ b c. class_number c ≡ class b };
 
+    #[inline(always)]
     fn from(b: u8) -> Class {
         match b {
             b' ' | b'\t' | b'\r' => Class::Blank,
@@ -30,6 +31,7 @@ impl From<u8> for Class {
 }
 
 // Where the bytes of a class end that stand from a position on.
+#[inline(always)]
 fn class_end(text: &[u8], at: usize, class: Class) -> usize
     requires { at ≤ length text.now }
     ensures { (result ≡ at + run (class_number class) (drop at text.now)) × (result ≤ length text.now) }
@@ -43,6 +45,7 @@ fn class_end(text: &[u8], at: usize, class: Class) -> usize
 }
 
 // The word that begins at a position where no blank is.
+#[inline(always)]
 fn word_at(text: &[u8], start: usize) -> Span
     requires start_in_bounds { start ≤ length text.now }
     requires text_value { blanks (drop start text.now) ≡ 0 }
@@ -60,6 +63,7 @@ fn word_at(text: &[u8], start: usize) -> Span
 }
 
 // The next word of the line from a position on.
+#[inline(always)]
 pub fn next_word(text: &[u8], at: usize) -> Span
     requires { at ≤ length text.now }
     ensures { NextWord text.now at result.start result.end }
@@ -69,6 +73,7 @@ pub fn next_word(text: &[u8], at: usize) -> Span
 }
 
 // Where the next line begins, seen from the beginning of a line or from within it; beyond the text where none follows.
+#[inline(always)]
 pub fn next_line(text: &[u8], at: usize) -> usize
     requires { at ≤ length text.now }
     ensures { NextLine text.now at result }

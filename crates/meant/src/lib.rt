@@ -49,6 +49,7 @@ fn is_recorded(job: &[u8], l: Layout, i: usize) -> bool
 }
 
 // Whether each of the eight moves that byte k of the set tells of is recorded, if it was said.
+#[inline(never)]
 fn byte_recorded(job: &[u8], l: Layout, moves: &Moves, k: usize) -> bool
     requires fit { Fit job.now l }
     requires k_bound { k < 524288 }

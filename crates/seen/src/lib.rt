@@ -7,6 +7,7 @@ ghost use Rattle.seen.specs.Kept.{Grown};
 
 use lines::line::{Lines, Words};
 use lines::names::Span;
+use std::iter::Fuse;
 use text::Line;
 
 // The word by which a line says a clause.
@@ -26,8 +27,8 @@ struct Clause<'a> {
     other: &'a [u8],
 }
 
-// The next word of a line, or no bytes where the line is at its end.
-fn next_or_none<'a>(line: &mut Words<'a>) -> &'a [u8] {
+// The next word of a line, or no bytes where the line is at its end, which is looked for once.
+fn next_or_none<'a>(line: &mut Fuse<Words<'a>>) -> &'a [u8] {
     match line.next() {
         Some(word) => word.bytes(),
         None => b"",
@@ -35,7 +36,8 @@ fn next_or_none<'a>(line: &mut Words<'a>) -> &'a [u8] {
 }
 
 // The clause that a line says, if it says one.
-fn clause_of(mut line: Words<'_>) -> Option<Clause<'_>> {
+fn clause_of(line: Words<'_>) -> Option<Clause<'_>> {
+    let mut line = line.fuse();
     let first = next_or_none(&mut line);
     let second = next_or_none(&mut line);
     let third = next_or_none(&mut line);

@@ -232,7 +232,9 @@ fn show(rt: &impl Print, err: &impl Print, text: &[u8], job: &[u8], showing: Sho
     }
 }
 
-// Turns a text into a job and shows its plan, or tells the text's faults on standard error.
+// Turns a text into a job and shows its plan, or tells the text's faults on standard error. It has a frame of its own: where no text is read, its
+// rooms take no stack.
+#[inline(never)]
 fn show_text(rt: &impl Print, err: &impl Print, text: &[u8], showing: Showing) {
     let mut job = [0u8; JOB_ROOM];
     let mut told = [0u8; TOLD_ROOM];

@@ -12,7 +12,13 @@ pub fn power(n: usize) -> usize
     requires { n ≤ 3 }
     ensures { result ≡ 3 ^ n }
 {
-    3usize.pow(n as u32)
+    // a table, and no power: the body's bytes ask it for each clause
+    match n {
+        0 => 1,
+        1 => 3,
+        2 => 9,
+        _ => 27,
+    }
 }
 
 // 2 to the p: how many labels p propositions have.

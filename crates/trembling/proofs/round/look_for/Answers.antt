@@ -6,7 +6,7 @@ use Rattle.rules.specs.Bytes.{said}
 use Rattle.job.proofs.Asking.{few_places, lawful}
 use Rattle.trembling.proofs.Others.{chosen_last, chosen_slip}
 use Rattle.trembling.proofs.Rounding.{few_slips}
-use Rattle.trembling.proofs.round.look.Goals as goal
+use Rattle.trembling.proofs.round.look_for.Goals as goal
 
 pub overflow_mul-places : goal.overflow_mul-places
 overflow_mul-places c = omega (arith, few_places c.requires.fit)

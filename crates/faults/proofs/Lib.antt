@@ -1,0 +1,2 @@
+-- What the proofs of faults share.
+mod Quoting
