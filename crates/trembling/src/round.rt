@@ -11,12 +11,11 @@ ghost use Rattle.trembling.specs.Round.{Ready, wanted_larger, Passed, BegunAll};
 
 use crate::set::LargerSet;
 use game::entry::Entry;
-use job::form::Form;
 use job::layout::Layout;
 use phases::phase::Phase;
 use rules::answer::Value;
 
-// The same for one phase, put into each of its calls: what the phase does not ask is not gathered.
+// What `look` answers, put into each of its calls for one phase: what the phase does not ask is not gathered.
 #[inline(always)]
 fn look_for(
     job: &[u8],
@@ -47,9 +46,9 @@ fn look_for(
     crate::scan::choose_slip(x, phase)
 }
 
-// The same as `look`, put into each of its calls, with the phase told apart before the records are looked through.
-#[inline(always)]
-fn look_in(
+// The lowest action that the round looks for at the place of state s and goal state q with k slips left. The phase is the same for all records, and
+// is told apart before they are looked through.
+fn look(
     job: &[u8],
     l: Layout,
     old: &LargerSet,
@@ -70,58 +69,6 @@ fn look_in(
     match phase {
         Phase::Winning => look_for(job, l, old, k, s, q, start, end, Phase::Winning),
         Phase::Pending => look_for(job, l, old, k, s, q, start, end, Phase::Pending),
-    }
-}
-
-// The lowest action that the round looks for at the place of state s and goal state q with k slips left. The form and the phase are the same for all
-// records, and are told apart here: within, for each record, they took up to nine tenths more time.
-fn look(
-    job: &[u8],
-    l: Layout,
-    old: &LargerSet,
-    k: usize,
-    s: usize,
-    q: usize,
-    start: usize,
-    end: usize,
-    phase: Phase,
-) -> Option<u8>
-    requires fit { Fit job.now l }
-    requires k_bound { k ≤ 3 }
-    requires q_lt_goals { q < l.goals }
-    requires range { Range (said job.now) s start end }
-    ensures { LowestCounted (wanted_larger job.now l phase old.now.words (larger k (place s q)))
-        (said job.now).actions result }
-{
-    match l.form {
-        Form::Old => look_in(
-            job,
-            Layout {
-                form: Form::Old,
-                ..l
-            },
-            old,
-            k,
-            s,
-            q,
-            start,
-            end,
-            phase,
-        ),
-        Form::Tall => look_in(
-            job,
-            Layout {
-                form: Form::Tall,
-                ..l
-            },
-            old,
-            k,
-            s,
-            q,
-            start,
-            end,
-            phase,
-        ),
     }
 }
 

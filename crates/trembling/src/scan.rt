@@ -35,7 +35,7 @@ fn no_tally() -> Tally
 }
 
 // Both tallies of the place of state s and goal state q, whose records are those from start up to end: own and less are where the entries
-// of the two counts of slips begin. It is put into its two callers, so that where both are the same one tally is not made in vain.
+// of the two counts of slips begin. It is put into both of its calls, so that where own and less are the same one tally is not made in vain.
 #[inline(always)]
 pub fn scan(
     job: &[u8],

@@ -1,5 +1,5 @@
--- `round::look_in` meets its contract: it looks for the phase that it is given.
-use Rattle.trembling.proofs.round.look_in.Goals as goal
+-- `round::look` meets its contract: it looks for the phase that it is given.
+use Rattle.trembling.proofs.round.look.Goals as goal
 
 pub returns-in-Winning : goal.returns-in-Winning
 returns-in-Winning c = rw c.in-Winning.is c.look_for.ensures
