@@ -1,5 +1,5 @@
 // What depends on the form of a job, old or tall: the sizes, the limits, and how Counts and a record are read. No other code asks the form,
-// but salvaging how many bytes a record has.
+// but `Layout::told_apart`, by which what is done for every record is made for each, and salvaging how many bytes a record has.
 ghost use Rattle.std.specs.Prelude.{◌≡◌, ◌+◌, ◌*◌, ◌≤◌, eqb, length};
 ghost use Rattle.job.specs.Forms.{in_rules, named_form};
 

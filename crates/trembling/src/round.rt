@@ -46,8 +46,9 @@ fn look_for(
     crate::scan::choose_slip(x, phase)
 }
 
-// The lowest action that the round looks for at the place of state s and goal state q with k slips left. The phase is the same for all records, and
-// is told apart before they are looked through.
+// The lowest action that the round looks for at the place of state s and goal state q with k slips left. The phase and the form are the same for all
+// records, and are told apart before these are looked through: the same is handed over twice, so that it is made for each form by itself. Where there
+// are no records there is nothing to tell apart.
 fn look(
     job: &[u8],
     l: Layout,
@@ -66,9 +67,18 @@ fn look(
     ensures { LowestCounted (wanted_larger job.now l phase old.now.words (larger k (place s q)))
         (said job.now).actions result }
 {
+    if end <= start {
+        return look_for(job, l, old, k, s, q, start, end, phase);
+    }
     match phase {
-        Phase::Winning => look_for(job, l, old, k, s, q, start, end, Phase::Winning),
-        Phase::Pending => look_for(job, l, old, k, s, q, start, end, Phase::Pending),
+        Phase::Winning => l.told_apart(
+            |l| look_for(job, l, old, k, s, q, start, end, Phase::Winning),
+            |l| look_for(job, l, old, k, s, q, start, end, Phase::Winning),
+        ),
+        Phase::Pending => l.told_apart(
+            |l| look_for(job, l, old, k, s, q, start, end, Phase::Pending),
+            |l| look_for(job, l, old, k, s, q, start, end, Phase::Pending),
+        ),
     }
 }
 

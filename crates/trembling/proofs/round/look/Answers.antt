@@ -1,8 +1,9 @@
 -- `round::look` meets its contract: it looks for the phase that it is given.
+use Rattle.std.proofs.Common.{rules}
 use Rattle.trembling.proofs.round.look.Goals as goal
 
 pub returns-in-Winning : goal.returns-in-Winning
-returns-in-Winning c = rw c.in-Winning.is c.look_for.ensures
+returns-in-Winning c = rw c.in-Winning.is search rules
 
 pub returns-in-Pending : goal.returns-in-Pending
-returns-in-Pending c = rw c.in-Pending.is c.look_for-in-Pending.ensures
+returns-in-Pending c = rw c.in-Pending.is search rules
